@@ -1,11 +1,13 @@
 #!/usr/bin/env bash
 # Prints how long the program takes over full registers, beside a plain program in Rust (bench/peer) that gives the same
-# answers, and nsd-checkzone (Debian: nsd) over a DNS zone of as many records: bench/speed.sh [--save] [SHAPE..]
+# answers, nsd-checkzone (Debian: nsd) over a DNS zone of as many records, unbound-checkconf (Debian: unbound) over as
+# many local data, and a program that reads the bytes of the register once: bench/speed.sh [--save] [SHAPE..]
 #
 # First, for each shape of tools/make_register.py (all where none is named), the time of `ddt check` at 1,000, 8,000 and
 # 65,535 rows, its growth from one size to the next (the rows grow by 8.0 and 8.2), the times of the other two, and the
 # ratios: above 1 where `ddt check` takes longer. Then, at 65,535 rows, `assign`, `answer` and `compile` of one group
-# and `lookup` of one identifier as multiples of `check`. Times are milliseconds that passed, the shortest of seven runs
+# and `lookup` of one identifier as multiples of `check`; and the nanoseconds a row of each program, with the start of
+# its process. Times are milliseconds that passed, the shortest of seven runs
 # on one processor. The programs take turns, so that all meet the same load. What /bin/true takes is a part of each
 # time. A run that fails, and a register of which the peer says something else, end the script.
 #
@@ -14,11 +16,12 @@
 # a loss is seen.
 #
 # DDT names the program, by default that which the launcher runs. Wants two processors, python3, a cargo that knows
-# Rust's edition 2024 (1.85), and nsd-checkzone where its columns are to be filled.
+# Rust's edition 2024 (1.85), and nsd-checkzone and unbound-checkconf where their columns are to be filled.
 set -eu
 cd -- "$(dirname -- "${BASH_SOURCE[0]}")/.."
 program=${DDT:-$(release/program ddt)}
 checkzone=$(PATH=$PATH:/usr/sbin:/sbin command -v nsd-checkzone) || checkzone=''
+checkconf=$(PATH=$PATH:/usr/sbin:/sbin command -v unbound-checkconf) || checkconf=''
 saved=bench/results/speed.tsv
 save=''
 if [ "${1-}" = --save ]; then
@@ -69,6 +72,21 @@ zone_file() {
     }'
 }
 
+# The same names as local data of a server of unbound.
+unbound_file() {
+    printf 'server:\n  chroot: ""\n  username: ""\n  pidfile: ""\n  directory: "%s"\n' "$folder"
+    printf '  local-zone: "example." static\n'
+    awk -v rows="$1" 'BEGIN {
+        for (n = 0; n < rows; n++)
+            printf "  local-data: \"h%d.example. IN A 10.%d.%d.%d\"\n", n, n / 65536, n / 256 % 256, n % 256
+    }'
+}
+
+# by_row MICROSECONDS ROWS: nanoseconds a row; a dash for nothing.
+by_row() {
+    awk -v a="$1" -v rows="$2" 'BEGIN { if (a == "-") printf "-"; else printf "%.0f", a * 1000 / rows }'
+}
+
 # ratio MICROSECONDS MICROSECONDS: of the first to the second; a dash where one is nothing.
 ratio() {
     awk -v a="${1:-}" -v b="${2:-}" 'BEGIN { if (a == "" || b == "") printf "-"; else printf "%.2f", a / (b ? b : 1) }'
@@ -91,6 +109,7 @@ keep() {
 machine="$(nproc) x $(sed -n 's/^model name[^:]*: //p' /proc/cpuinfo | head -n 1)"
 for rows in "${sizes[@]}"; do
     zone_file "$rows" >"$folder/$rows.zone"
+    unbound_file "$rows" >"$folder/$rows.conf"
     for shape in "${shapes[@]}"; do
         register=$folder/$shape.$rows.csv
         python3 tools/make_register.py "$shape" "$rows" >"$register"
@@ -107,15 +126,19 @@ done
 printf '%s; /bin/true takes %s\n\n' "$machine" "$(shown "$empty")"
 printf '| shape | rows | check | growth | peer | of the peer | nsd-checkzone | of nsd-checkzone | saved last |\n'
 printf '|---|---|---|---|---|---|---|---|---|\n'
+declare -A rows_of_costs
 for shape in "${shapes[@]}"; do
     before=''
     for rows in "${sizes[@]}"; do
-        ours='' plain='' theirs=''
+        ours='' plain='' theirs='' data='' once=''
         for _ in 1 2 3 4 5 6 7; do
             lower ours "$program" check "$folder/$shape.$rows.csv"
             lower plain "$peer" check "$folder/$shape.$rows.csv"
+            lower once "$peer" bytes "$folder/$shape.$rows.csv"
             [ -z "$checkzone" ] || lower theirs "$checkzone" example "$folder/$rows.zone"
+            [ -z "$checkconf" ] || lower data "$checkconf" "$folder/$rows.conf"
         done
+        rows_of_costs[$shape]="$once $ours $plain ${theirs:--} ${data:--}"
         of_peer=$(ratio "$ours" "$plain") of_theirs=$(ratio "$ours" "$theirs")
         printf '| %s | %s | %s | %s | %s | %s | %s | %s | %s |\n' "$shape" "$rows" "$(shown "$ours")" \
             "$(ratio "$ours" "$before")" "$(shown "$plain")" "$of_peer" "$(shown "$theirs")" "$of_theirs" \
@@ -125,8 +148,18 @@ for shape in "${shapes[@]}"; do
     done
 done
 
-printf '\n| shape | rows | check | assign | answer | compile | lookup |\n|---|---|---|---|---|---|---|\n'
 rows=${sizes[-1]}
+printf '\nNanoseconds a row, %s rows\n\n' "$rows"
+printf '| shape | bytes once | check | peer | nsd-checkzone | unbound-checkconf |\n|---|---|---|---|---|---|\n'
+for shape in "${shapes[@]}"; do
+    printf '| %s ' "$shape"
+    for cost in ${rows_of_costs[$shape]}; do
+        printf '| %s ' "$(by_row "$cost" "$rows")"
+    done
+    echo '|'
+done
+
+printf '\n| shape | rows | check | assign | answer | compile | lookup |\n|---|---|---|---|---|---|---|\n'
 for shape in "${shapes[@]}"; do
     register=$folder/$shape.$rows.csv
     group=$(awk -F, '$1 == "node" && $2 == "*" { print $3 }' "$register")

@@ -10,7 +10,7 @@ copy=$(mktemp -d) || exit 1
 trap 'rm -rf -- "$copy"' EXIT
 tar -C "$top" --exclude=out -cf - crates.txt HANDLES crates | tar -C "$copy" -xf - || exit 1
 source=$copy/crates/slow_bodies/src
-below='ddt_examples ddt_path ddt_text ddt_register ddt_check ddt_config ddt_compile ddt_plan ddt_faults ddt_warnings'
+below='ddt_examples ddt_path ddt_text ddt_register ddt_check ddt_config ddt_compile ddt_plan ddt_review'
 printf 'slow_bodies: %s\n' "$below" >>"$copy/crates.txt" || exit 1
 mkdir -p -- "$source" && cp -- "$top/crates/ddt_review_tests/src/comparison.rt" "$source" || exit 1
 # Of these plain bodies it is proved what they compute.

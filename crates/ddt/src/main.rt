@@ -4,21 +4,21 @@
 #![tactic(auto)]
 
 use ddt_cache::Moment;
-use ddt_commands::{Refusal, Status, refuse, run, show_usage};
-use ddt_loop::{Clock, StandingClock, SystemClock};
+use ddt_commands::{Environment, Refusal, Status, refuse, run, show_usage};
+use ddt_loop::{Clock, FixedClock, SystemClock};
 use ddt_path::Locator;
-use ddt_wires::UdpWires;
+use ddt_sockets::UdpWires;
 use std::io::ErrorKind;
 use std::process::ExitCode;
 use std::{env, fs, io};
 
 fn main(rt: HostRuntime) -> ExitCode {
     let status = match SystemClock::new(&rt) {
-        Ok(mut clock) => run_at(&rt, &mut clock),
-        // Where the system tells no time, a lookup whose request is lost waits until the turns are used.
+        Ok(clock) => run_at(&rt, clock),
+        // Where the system has no time, a lookup whose request is lost waits until the turns are used.
         Err(_error) => run_at(
             &rt,
-            &mut StandingClock {
+            FixedClock {
                 at: Moment::at(0).unwrap(),
             },
         ),
@@ -27,19 +27,16 @@ fn main(rt: HostRuntime) -> ExitCode {
 }
 
 /// Runs the command of the process over its files, its sockets and a clock.
-fn run_at<C: Clock>(rt: &HostRuntime, clock: &mut C) -> Status {
+fn run_at<C: Clock + Drop>(rt: &HostRuntime, clock: C) -> Status {
+    let mut environment = Environment {
+        open_file: |path: &str| fs::open(rt, path).ok(),
+        wires: UdpWires::new(rt.alloc()),
+        clock,
+        bind: |wires: &mut UdpWires, at: Locator| wires.bind(rt, at),
+    };
     let (mut out, mut err) = (rt.stdout(), rt.stderr());
     match words_of(rt) {
-        Ok(words) => run(
-            rt.alloc(),
-            &words,
-            |path| fs::open(rt, path).ok(),
-            &mut UdpWires::new(rt.alloc()),
-            clock,
-            |wires: &mut UdpWires, at: Locator| wires.bind(rt, at),
-            &mut out,
-            &mut err,
-        ),
+        Ok(words) => run(rt.alloc(), &words, &mut environment, &mut out, &mut err),
         Err(error) if error.kind() == ErrorKind::OutOfMemory => {
             refuse(rt.alloc(), &Refusal::OutOfMemory, &mut err)
         }

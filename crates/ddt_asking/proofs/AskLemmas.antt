@@ -8,15 +8,15 @@ use Rattle.ddt_path.specs.declared.xeid.Xeid.{Xeid}
 use Rattle.ddt_path.specs.declared.locator.Locator.{Locator}
 use Rattle.ddt_ecm.specs.Request.{written}
 use Rattle.ddt_resolver.specs.State.{request_bytes}
-use Rattle.ddt_wires.specs.declared.call.Call.{Call}
-use Rattle.ddt_wires.specs.declared.call.Call.TheVariants.{Received, Tried}
-use Rattle.ddt_wires.specs.declared.call.NetFault.{NetFault}
-use Rattle.ddt_wires.specs.declared.call.Packet.{Packet}
-use Rattle.ddt_wires.specs.Calls.{RecordsCalls, received}
-use Rattle.ddt_wires.specs.Turns.{most_bytes}
-use Rattle.ddt_asking.specs.declared.manner.Client.{Client}
-use Rattle.ddt_asking.specs.declared.manner.Client.TheVariants.{Ddt, Itr}
-use Rattle.ddt_asking.specs.declared.manner.Manner.{Manner}
+use Rattle.ddt_sockets.specs.declared.wire_calls.Call.{Call}
+use Rattle.ddt_sockets.specs.declared.wire_calls.Call.TheVariants.{Received, Tried}
+use Rattle.ddt_sockets.specs.declared.wire_calls.NetFault.{NetFault}
+use Rattle.ddt_sockets.specs.declared.wire_calls.Packet.{Packet}
+use Rattle.ddt_sockets.specs.Calls.{RecordsCalls, received}
+use Rattle.ddt_sockets.specs.Turns.{most_bytes}
+use Rattle.ddt_asking.specs.declared.probe_options.Client.{Client}
+use Rattle.ddt_asking.specs.declared.probe_options.Client.TheVariants.{Ddt, Itr}
+use Rattle.ddt_asking.specs.declared.probe_options.ProbeOptions.{ProbeOptions}
 use Rattle.ddt_asking.specs.declared.question.Question.{Question}
 use Rattle.ddt_asking.specs.declared.verdict.Finding.{Finding}
 use Rattle.ddt_asking.specs.declared.verdict.Verdict.{Verdict}
@@ -24,7 +24,7 @@ use Rattle.ddt_asking.specs.declared.verdict.Verdict.TheVariants.{Silent}
 use Rattle.ddt_path.specs.declared.record.ReferralRecord.{ReferralRecord}
 use Rattle.ddt_asking.specs.Verdicts.{silent}
 use Rattle.ddt_asking.specs.ItrVerdicts.{itr_silent}
-use Rattle.ddt_asking.specs.declared.wait.Wait.{Wait}
+use Rattle.ddt_asking.specs.declared.await_reply.Wait.{Wait}
 use Rattle.ddt_asking.specs.Replies.{reply_of}
 use Rattle.ddt_asking.specs.Steps.{WireStep, step_of, HasDone}
 use Rattle.ddt_asking.specs.Waits.{IsWait, replied, over, used_up}
@@ -41,7 +41,7 @@ unfolding request_bytes
 is_requested Ddt nonce x me request is = is
 is_requested Itr nonce x me request is = is
 
-pub question_asked : (m : Manner) (x : Xeid) (nonce : ℕ) (request : List ℕ) (steps : List WireStep)
+pub question_asked : (m : ProbeOptions) (x : Xeid) (nonce : ℕ) (request : List ℕ) (steps : List WireStep)
     (its_reply : Option (List ℕ)) (q : Question) (found : Verdict)
     → request ≡ written nonce x (m.me ∷ []) (sets_d m.client)
     → AreTries m request (awaited_for m x q nonce) steps its_reply
@@ -76,11 +76,11 @@ no_reply w steps reply none (replied vain last bytes vains poll early is) =
 no_reply w steps reply none (over vain last vains poll late) = over vain last vains poll late
 no_reply w steps reply none (used_up vain vains all) = used_up vain vains all
 
-pub has_no_pause : (told : Option (List Call)) (read : Option (List ℕ)) (m : Manner) → pause_of m.rate ≡ 0
+pub has_no_pause : (told : Option (List Call)) (read : Option (List ℕ)) (m : ProbeOptions) → pause_of m.rate ≡ 0
     → (steps : List WireStep) × HasDone told told read read steps × IsPause m steps
 has_no_pause told read m none = ([], nothing_done told read, no_pause none)
 
-pub has_paused : (told midway telling : Option (List Call)) (read between reading : Option (List ℕ)) (m : Manner)
+pub has_paused : (told midway telling : Option (List Call)) (read between reading : Option (List ℕ)) (m : ProbeOptions)
     (answer : Result (Option Packet) NetFault) (buffer : List ℕ) (now pause : ℕ) (polls : List WireStep)
     (reply : Option (List ℕ)) → pause ≡ pause_of m.rate → length buffer ≡ most_bytes
     → RecordsCalls told (received m.me answer buffer ∷ []) midway → RecordsCalls read (now ∷ []) between
@@ -99,18 +99,18 @@ has_paused told midway telling read between reading m answer buffer now pause po
 
 -- ---- the questions so far
 
-pub record IsAsking (told telling : Option (List Call)) (read reading : Option (List ℕ)) (m : Manner) (x : Xeid)
+pub record IsAsking (told telling : Option (List Call)) (read reading : Option (List ℕ)) (m : ProbeOptions) (x : Xeid)
     (s : Stream) (findings : List Finding) (t : Stream) : Type 0 where
   pub steps : List WireStep
   pub done : HasDone told telling read reading steps
   pub asked : HasAsked m x s steps findings t
 
-pub none_asked_yet : (told : Option (List Call)) (read : Option (List ℕ)) (m : Manner) (x : Xeid) (s : Stream)
+pub none_asked_yet : (told : Option (List Call)) (read : Option (List ℕ)) (m : ProbeOptions) (x : Xeid) (s : Stream)
     → IsAsking told told read read m x s [] s
 none_asked_yet told read m x s = record { steps = []; done = nothing_done told read; asked = none_yet }
 
 pub one_more_asked : (told one two telling : Option (List Call)) (read once twice reading : Option (List ℕ))
-    (m : Manner) (x : Xeid) (s : Stream) (findings : List Finding) (t : Stream) (nonce : ℕ) (u : Stream)
+    (m : ProbeOptions) (x : Xeid) (s : Stream) (findings : List Finding) (t : Stream) (nonce : ℕ) (u : Stream)
     (asking pausing : List WireStep) (f : Finding) → IsAsking told one read once m x s findings t
     → (nonce, u) ≡ next_u64 t → HasDone one two once twice asking → IsAskedOfServer m x nonce asking f
     → HasDone two telling twice reading pausing → IsPause m pausing
@@ -140,18 +140,18 @@ at_error (Ok x) is = tt
 at_error (Err e) is = is
 
 -- before the request of a question is made
-pub none_begun : (told : Option (List Call)) (read : Option (List ℕ)) (m : Manner) (x : Xeid) (nonce : ℕ) (q : Question)
+pub none_begun : (told : Option (List Call)) (read : Option (List ℕ)) (m : ProbeOptions) (x : Xeid) (nonce : ℕ) (q : Question)
     → (steps : List WireStep) × HasDone told told read read steps × IsBegun m x nonce q steps
 none_begun told read m x nonce q = ([], nothing_done told read, unsent)
 
-pub begun_of : (m : Manner) (x : Xeid) (nonce : ℕ) (q : Question) (steps : List WireStep) (f : Finding)
+pub begun_of : (m : ProbeOptions) (x : Xeid) (nonce : ℕ) (q : Question) (steps : List WireStep) (f : Finding)
     → f.question ≡ q → IsAskedOfServer m x nonce steps f → IsBegun m x nonce q steps
 begun_of m x nonce q steps f same is = all_tried steps is.reply
     (subst
     (λ (p : Question). AreTries m (request_of m.client nonce x m.me) (awaited_for m x p nonce) steps is.reply) same
     is.tries)
 
-pub question_begun : (m : Manner) (x : Xeid) (nonce : ℕ) (request : List ℕ) (steps : List WireStep)
+pub question_begun : (m : ProbeOptions) (x : Xeid) (nonce : ℕ) (request : List ℕ) (steps : List WireStep)
     (its_reply : Option (List ℕ)) (q : Question) → request ≡ written nonce x (m.me ∷ []) (sets_d m.client)
     → AreTries m request (awaited_for m x q nonce) steps its_reply → IsBegun m x nonce q steps
 question_begun m x nonce request steps its_reply q is are = all_tried steps its_reply
@@ -170,7 +170,7 @@ questions_from questions findings i q lt is so_far =
     ∙ ap (λ (qs : List Question). qs ++ q ∷ []) (sym so_far))
     ∙ append_assoc (map (λ (g : Finding). g.question) findings) (q ∷ []) (drop (i + 1) questions)
 
-pub stopped_at : (told one telling : Option (List Call)) (read once reading : Option (List ℕ)) (m : Manner) (x : Xeid)
+pub stopped_at : (told one telling : Option (List Call)) (read once reading : Option (List ℕ)) (m : ProbeOptions) (x : Xeid)
     (s : Stream) (questions : List Question) (findings : List Finding) (i : ℕ) (q : Question) (t : Stream) (nonce : ℕ)
     (u : Stream) (asking : List WireStep) → i < length questions → q ≡ get_or questions i q
     → map (λ (g : Finding). g.question) findings ≡ take i questions → IsAsking told one read once m x s findings t

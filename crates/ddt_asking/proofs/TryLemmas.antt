@@ -7,15 +7,15 @@ use Rattle.std.proofs.lemmas.List.{length_push}
 use Rattle.std.proofs.lemmas.List.Elements.{All-nil, All-push}
 use Rattle.ddt_ecm.specs.UdpHeader.{control_port}
 use Rattle.ddt_path.specs.declared.locator.Locator.{Locator}
-use Rattle.ddt_wires.specs.declared.call.Call.{Call}
-use Rattle.ddt_wires.specs.declared.call.Call.TheVariants.{Tried}
-use Rattle.ddt_wires.specs.declared.call.NetFault.{NetFault}
-use Rattle.ddt_wires.specs.declared.call.Packet.{Packet}
-use Rattle.ddt_wires.specs.Calls.{RecordsCalls, packet_bytes, received}
-use Rattle.ddt_wires.specs.Turns.{most_bytes}
-use Rattle.ddt_asking.specs.declared.manner.Manner.{Manner}
-use Rattle.ddt_asking.specs.declared.reply.Awaited.{Awaited}
-use Rattle.ddt_asking.specs.declared.wait.Wait.{Wait}
+use Rattle.ddt_sockets.specs.declared.wire_calls.Call.{Call}
+use Rattle.ddt_sockets.specs.declared.wire_calls.Call.TheVariants.{Tried}
+use Rattle.ddt_sockets.specs.declared.wire_calls.NetFault.{NetFault}
+use Rattle.ddt_sockets.specs.declared.wire_calls.Packet.{Packet}
+use Rattle.ddt_sockets.specs.Calls.{RecordsCalls, packet_bytes, received}
+use Rattle.ddt_sockets.specs.Turns.{most_bytes}
+use Rattle.ddt_asking.specs.declared.probe_options.ProbeOptions.{ProbeOptions}
+use Rattle.ddt_asking.specs.declared.reply_match.AwaitedReply.{AwaitedReply}
+use Rattle.ddt_asking.specs.declared.await_reply.Wait.{Wait}
 use Rattle.ddt_asking.specs.Replies.{reply_in}
 use Rattle.ddt_asking.specs.Steps.{WireStep, step_of, HasDone}
 use Rattle.ddt_asking.specs.Waits.{IsVain, IsWait, replied, over, used_up, most_polls}
@@ -115,8 +115,8 @@ wait_is_used_up told telling read reading w count so_far all =
 
 -- ---- a try
 
-module _ (told midway : Option (List Call)) (read between : Option (List ℕ)) (m : Manner) (request : List ℕ)
-    (a : Awaited) (now : ℕ) (reads : RecordsCalls read (now ∷ []) between) where
+module _ (told midway : Option (List Call)) (read between : Option (List ℕ)) (m : ProbeOptions) (request : List ℕ)
+    (a : AwaitedReply) (now : ℕ) (reads : RecordsCalls read (now ∷ []) between) where
   pub try_is_lost : (answer : Result (Unit {0}) NetFault) → is_err answer ≡ true
       → RecordsCalls told (Tried m.me a.from control_port request answer ∷ []) midway
       → (steps : List WireStep) × HasDone told midway read between steps × IsTry m request a steps None
@@ -142,18 +142,18 @@ module _ (told midway : Option (List Call)) (read between : Option (List ℕ)) (
   )
 
 -- so many tries so far, all without a reply
-pub record IsTrying (told telling : Option (List Call)) (read reading : Option (List ℕ)) (m : Manner)
-    (request : List ℕ) (a : Awaited) (count : ℕ) : Type 0 where
+pub record IsTrying (told telling : Option (List Call)) (read reading : Option (List ℕ)) (m : ProbeOptions)
+    (request : List ℕ) (a : AwaitedReply) (count : ℕ) : Type 0 where
   pub steps : List WireStep
   pub done : HasDone told telling read reading steps
   pub tried : HasTried m request a count steps
 
-pub no_try_yet : (told : Option (List Call)) (read : Option (List ℕ)) (m : Manner) (request : List ℕ) (a : Awaited)
+pub no_try_yet : (told : Option (List Call)) (read : Option (List ℕ)) (m : ProbeOptions) (request : List ℕ) (a : AwaitedReply)
     → IsTrying told told read read m request a 0
 no_try_yet told read m request a = record { steps = []; done = nothing_done told read; tried = no_try }
 
-pub one_more_try : (told midway telling : Option (List Call)) (read between reading : Option (List ℕ)) (m : Manner)
-    (request : List ℕ) (a : Awaited) (count : ℕ) (more : List WireStep)
+pub one_more_try : (told midway telling : Option (List Call)) (read between reading : Option (List ℕ)) (m : ProbeOptions)
+    (request : List ℕ) (a : AwaitedReply) (count : ℕ) (more : List WireStep)
     → IsTrying told midway read between m request a count → HasDone midway telling between reading more
     → IsTry m request a more None → IsTrying told telling read reading m request a (count + 1)
 one_more_try told midway telling read between reading m request a count more so_far done try = record {
@@ -162,8 +162,8 @@ one_more_try told midway telling read between reading m request a count more so_
   tried = one_try count so_far.steps more so_far.tried try;
 }
 
-module _ (told midway telling : Option (List Call)) (read between reading : Option (List ℕ)) (m : Manner)
-    (request : List ℕ) (a : Awaited) (count : ℕ) (so_far : IsTrying told midway read between m request a count)
+module _ (told midway telling : Option (List Call)) (read between reading : Option (List ℕ)) (m : ProbeOptions)
+    (request : List ℕ) (a : AwaitedReply) (count : ℕ) (so_far : IsTrying told midway read between m request a count)
     (more : List WireStep) (done : HasDone midway telling between reading more) where
   with_a_reply : (f : ℕ → List ℕ) (reply : Option ℕ) → IsTry m request a more (option_map f reply)
       → is_some reply ≡ true → count < m.tries → AreTries m request a (so_far.steps ++ more) (option_map f reply)
@@ -186,8 +186,8 @@ module _ (told midway telling : Option (List Call)) (read between reading : Opti
       one_more_try told midway telling read between reading m request a count more so_far done
       (subst (λ (r : Option (List ℕ)). IsTry m request a more r) (none_mapped f reply absent) is)
 
-pub tries_are_unanswered : (told telling : Option (List Call)) (read reading : Option (List ℕ)) (m : Manner)
-    (request : List ℕ) (a : Awaited) (count : ℕ) → IsTrying told telling read reading m request a count
+pub tries_are_unanswered : (told telling : Option (List Call)) (read reading : Option (List ℕ)) (m : ProbeOptions)
+    (request : List ℕ) (a : AwaitedReply) (count : ℕ) → IsTrying told telling read reading m request a count
     → count ≡ m.tries
     → (steps : List WireStep) × HasDone told telling read reading steps × AreTries m request a steps None
 tries_are_unanswered told telling read reading m request a count so_far all = (

@@ -6,14 +6,14 @@ use Rattle.ddt_path.specs.declared.xeid.Xeid.{Xeid}
 use Rattle.ddt_path.specs.declared.locator.Locator.{Locator}
 use Rattle.ddt_ecm.specs.Request.{written}
 use Rattle.ddt_resolver.specs.State.{request_bytes}
-use Rattle.ddt_asking.specs.declared.manner.Client.{Client}
-use Rattle.ddt_asking.specs.declared.manner.Client.TheVariants.{Ddt, Itr}
-use Rattle.ddt_asking.specs.declared.manner.Manner.{Manner}
+use Rattle.ddt_asking.specs.declared.probe_options.Client.{Client}
+use Rattle.ddt_asking.specs.declared.probe_options.Client.TheVariants.{Ddt, Itr}
+use Rattle.ddt_asking.specs.declared.probe_options.ProbeOptions.{ProbeOptions}
 use Rattle.ddt_asking.specs.declared.question.Question.{Question}
-use Rattle.ddt_asking.specs.declared.reply.Awaited.{Awaited}
+use Rattle.ddt_asking.specs.declared.reply_match.AwaitedReply.{AwaitedReply}
 use Rattle.ddt_asking.specs.declared.verdict.Finding.{Finding}
 use Rattle.ddt_asking.specs.declared.verdict.Verdict.{Verdict}
-use Rattle.ddt_asking.specs.declared.wait.Wait.{Wait}
+use Rattle.ddt_asking.specs.declared.await_reply.Wait.{Wait}
 use Rattle.ddt_asking.specs.Steps.{WireStep}
 use Rattle.ddt_asking.specs.Waits.{IsPoll, IsWait}
 use Rattle.ddt_asking.specs.Tries.{AreTries}
@@ -32,7 +32,7 @@ request_of Ddt nonce x me = request_bytes nonce x me
 request_of Itr nonce x me = written nonce x (me ∷ []) false
 
 -- the reply to a question about an identifier under a nonce
-abbrev pub awaited_for : Manner → Xeid → Question → ℕ → Awaited
+abbrev pub awaited_for : ProbeOptions → Xeid → Question → ℕ → AwaitedReply
 awaited_for m x q n = record { client = m.client; from = q.to; nonce = n; xeid = x }
 
 -- what comes of a question by its reply, as what is demanded of a server, or as what an ITR has to get
@@ -42,28 +42,29 @@ IsVerdictFor Itr x demanded nonce reply verdict = IsItrVerdict x demanded nonce 
 
 -- A question about an identifier was asked under a nonce, by the request of its client, and this is what its reply
 -- comes to.
-pub record IsAskedOfServer (m : Manner) (x : Xeid) (nonce : ℕ) (steps : List WireStep) (f : Finding) : Type 0 where
-  pub reply : Option (List ℕ)
-  pub tries : AreTries m (request_of m.client nonce x m.me) (awaited_for m x f.question nonce) steps reply
-  pub verdict : IsVerdictFor m.client x f.question.demanded nonce reply f.verdict
+pub record IsAskedOfServer (m : ProbeOptions) (x : Xeid) (nonce : ℕ) (steps : List WireStep) (f : Finding) : Type 0
+  where
+    pub reply : Option (List ℕ)
+    pub tries : AreTries m (request_of m.client nonce x m.me) (awaited_for m x f.question nonce) steps reply
+    pub verdict : IsVerdictFor m.client x f.question.demanded nonce reply f.verdict
 
 -- how many milliseconds a question is followed by, at a rate of so many a second; none without a rate
 abbrev pub pause_of : ℕ → ℕ
 pause_of rate = 1000 / rate
 
 -- the wait of a pause, in which no reply is awaited
-abbrev pub wait_from : Manner → ℕ → Wait
+abbrev pub wait_from : ProbeOptions → ℕ → Wait
 wait_from m now = record { at = m.me; awaited = None; since = now; millis = pause_of m.rate }
 
 -- a pause: none at all, or a poll and then a wait from its moment on
-pub data IsPause (m : Manner) : List WireStep → Type 0 where
+pub data IsPause (m : ProbeOptions) : List WireStep → Type 0 where
   no_pause : pause_of m.rate ≡ 0 → IsPause m []
   pauses : (first : WireStep) (polls : List WireStep) → IsPoll m.me first.call
       → IsWait (wait_from m first.moment) polls None → IsPause m (first ∷ polls)
 
 -- Questions about an identifier were asked one after the other, with a pause behind each. Their nonces are the next
 -- numbers of a generator.
-pub data HasAsked (m : Manner) (x : Xeid) (s : Stream) : List WireStep → List Finding → Stream → Type 0 where
+pub data HasAsked (m : ProbeOptions) (x : Xeid) (s : Stream) : List WireStep → List Finding → Stream → Type 0 where
   none_yet : HasAsked m x s [] [] s
   one_more : (before : List WireStep) (findings : List Finding) (t : Stream) (nonce : ℕ) (u : Stream)
       (asking pausing : List WireStep) (f : Finding) → HasAsked m x s before findings t → (nonce, u) ≡ next_u64 t
@@ -71,13 +72,13 @@ pub data HasAsked (m : Manner) (x : Xeid) (s : Stream) : List WireStep → List 
       → HasAsked m x s (before ++ (asking ++ pausing)) (findings ++ f ∷ []) u
 
 -- What is done of a question for which memory runs out: nothing, or all its tries, whatever comes of them.
-pub data IsBegun (m : Manner) (x : Xeid) (nonce : ℕ) (q : Question) : List WireStep → Type 0 where
+pub data IsBegun (m : ProbeOptions) (x : Xeid) (nonce : ℕ) (q : Question) : List WireStep → Type 0 where
   unsent : IsBegun m x nonce q []
   all_tried : (steps : List WireStep) (reply : Option (List ℕ))
       → AreTries m (request_of m.client nonce x m.me) (awaited_for m x q nonce) steps reply → IsBegun m x nonce q steps
 
 -- Memory ran out at one of these questions: those before it were asked, and none after it.
-pub record HasStopped (m : Manner) (x : Xeid) (s : Stream) (questions : List Question) (steps : List WireStep)
+pub record HasStopped (m : ProbeOptions) (x : Xeid) (s : Stream) (questions : List Question) (steps : List WireStep)
     (t : Stream) : Type 0 where
   pub findings : List Finding
   pub question : Question

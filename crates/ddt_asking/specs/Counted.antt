@@ -1,6 +1,6 @@
 -- How many findings there are of each kind.
 use Rattle.std.specs.Prelude.{ℕ, ◌+◌, ◌-◌, ◌^◌, ◌==◌, if◌then◌else◌, min, List, [], ◌++◌, codes, decimal}
-use Rattle.ddt_asking.specs.declared.counts.FindingCounts.{FindingCounts}
+use Rattle.ddt_asking.specs.declared.finding_counts.FindingCounts.{FindingCounts}
 use Rattle.ddt_asking.specs.declared.verdict.Verdict.{Verdict}
 use Rattle.ddt_asking.specs.declared.verdict.Verdict.TheVariants.{Agrees, Differs, Silent, NotJudged}
 

@@ -2,7 +2,7 @@
 use Rattle.std.specs.Prelude.{ℕ, ◌*◌, ◌/◌, ◌-◌, ◌^◌, min, List, ◌++◌, codes, decimal}
 use Rattle.ddt_path.specs.declared.action.Action.{Action}
 use Rattle.ddt_path.specs.declared.action.Action.TheVariants.{NodeReferral, MsReferral, MsAck, MsNotRegistered, DelegationHole, NotAuthoritative}
-use Rattle.ddt_asking.specs.declared.plan.QuestionCounts.{QuestionCounts}
+use Rattle.ddt_asking.specs.declared.question_counts.QuestionCounts.{QuestionCounts}
 use Rattle.ddt_asking.specs.declared.question.Question.{Question}
 use Rattle.ddt_asking.specs.Asked.{pause_of}
 use Rattle.ddt_asking.specs.Counted.{one_more}

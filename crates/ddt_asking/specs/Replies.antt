@@ -7,13 +7,13 @@ use Rattle.ddt_wire.specs.MessageType.{map_referral, map_reply}
 use Rattle.ddt_foreign.specs.declared.fault.ForeignRequestFault.{ForeignRequestFault}
 use Rattle.ddt_foreign.specs.Request.{Asked, request_in}
 use Rattle.ddt_ecm.specs.UdpHeader.{control_port}
-use Rattle.ddt_wires.specs.declared.call.Call.{Call}
-use Rattle.ddt_wires.specs.declared.call.Call.TheVariants.{Received, Tried}
-use Rattle.ddt_wires.specs.declared.call.NetFault.{NetFault}
-use Rattle.ddt_wires.specs.declared.call.Packet.{Packet}
-use Rattle.ddt_asking.specs.declared.manner.Client.{Client}
-use Rattle.ddt_asking.specs.declared.manner.Client.TheVariants.{Ddt, Itr}
-use Rattle.ddt_asking.specs.declared.reply.Awaited.{Awaited}
+use Rattle.ddt_sockets.specs.declared.wire_calls.Call.{Call}
+use Rattle.ddt_sockets.specs.declared.wire_calls.Call.TheVariants.{Received, Tried}
+use Rattle.ddt_sockets.specs.declared.wire_calls.NetFault.{NetFault}
+use Rattle.ddt_sockets.specs.declared.wire_calls.Packet.{Packet}
+use Rattle.ddt_asking.specs.declared.probe_options.Client.{Client}
+use Rattle.ddt_asking.specs.declared.probe_options.Client.TheVariants.{Ddt, Itr}
+use Rattle.ddt_asking.specs.declared.reply_match.AwaitedReply.{AwaitedReply}
 
 -- The bytes begin as a message of a type with this nonce: the type in the first four bits, and the nonce from the fifth
 -- byte on. What follows may be anything, also what can't be read (RFC 8111, section 6.4; RFC 9301, section 5.4).
@@ -23,7 +23,7 @@ begins_as kind nonce bytes =
 
 -- a packet of these bytes comes from the server that was asked, from port 4342, and is a Map-Referral with the nonce of
 -- the question
-abbrev pub is_of_server : Awaited → Packet → List ℕ → Bool
+abbrev pub is_of_server : AwaitedReply → Packet → List ℕ → Bool
 is_of_server a p bytes =
     is_same_locator p.from a.from && p.port == control_port && begins_as map_referral a.nonce bytes
 
@@ -43,25 +43,25 @@ is_forwarded nonce x bytes = is_own_in nonce x (request_in bytes)
 
 -- What a question waits for. A server that a resolver asks sends a Map-Referral. To an ITR comes a Map-Reply, or,
 -- where it is an ETR too, its own request; from wherever.
-abbrev pub is_reply_for : Client → Awaited → Packet → List ℕ → Bool
+abbrev pub is_reply_for : Client → AwaitedReply → Packet → List ℕ → Bool
 is_reply_for Ddt a p bytes = is_of_server a p bytes
 is_reply_for Itr a p bytes = begins_as map_reply a.nonce bytes || is_forwarded a.nonce a.xeid bytes
 
-abbrev pub is_reply : Awaited → Packet → List ℕ → Bool
+abbrev pub is_reply : AwaitedReply → Packet → List ℕ → Bool
 is_reply a p bytes = is_reply_for a.client a p bytes
 
 -- the same where a reply is awaited; where none is, no packet is one
-abbrev pub is_awaited : Option Awaited → Packet → List ℕ → Bool
+abbrev pub is_awaited : Option AwaitedReply → Packet → List ℕ → Bool
 is_awaited (Some a) p bytes = is_reply a p bytes
 is_awaited None p bytes = false
 
 -- the reply that an answer of `receive` gives: the packet's bytes
-abbrev pub reply_in : Option Awaited → Result (Option Packet) NetFault → List ℕ → Option (List ℕ)
+abbrev pub reply_in : Option AwaitedReply → Result (Option Packet) NetFault → List ℕ → Option (List ℕ)
 reply_in a (Ok (Some p)) bytes = if is_awaited a p bytes then Some bytes else None
 reply_in a (Ok None) bytes = None
 reply_in a (Err fault) bytes = None
 
 -- the reply that a call gives; only a call of `receive` does
-abbrev pub reply_of : Option Awaited → Call → Option (List ℕ)
+abbrev pub reply_of : Option AwaitedReply → Call → Option (List ℕ)
 reply_of a (Received at room answer bytes) = reply_in a answer bytes
 reply_of a (Tried at to port bytes answer) = None

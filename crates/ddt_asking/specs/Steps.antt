@@ -1,7 +1,7 @@
 -- What is done while questions are asked, in steps.
 use Rattle.std.specs.Prelude.{ℕ, List, map, Option}
-use Rattle.ddt_wires.specs.declared.call.Call.{Call}
-use Rattle.ddt_wires.specs.Calls.{RecordsCalls}
+use Rattle.ddt_sockets.specs.declared.wire_calls.Call.{Call}
+use Rattle.ddt_sockets.specs.Calls.{RecordsCalls}
 
 -- a call of wires, and the moment that the clock gave behind it
 pub record WireStep : Type 0 where

@@ -1,19 +1,19 @@
 -- The tries of a question, by their steps.
 use Rattle.std.specs.Prelude.{ℕ, ◌+◌, ◌<◌, List, [], ◌∷◌, ◌++◌, Option, Some, None, Ok, Err}
 use Rattle.ddt_ecm.specs.UdpHeader.{control_port}
-use Rattle.ddt_wires.specs.declared.call.Call.TheVariants.{Tried}
-use Rattle.ddt_wires.specs.declared.call.NetFault.{NetFault}
-use Rattle.ddt_asking.specs.declared.manner.Manner.{Manner}
-use Rattle.ddt_asking.specs.declared.reply.Awaited.{Awaited}
-use Rattle.ddt_asking.specs.declared.wait.Wait.{Wait}
+use Rattle.ddt_sockets.specs.declared.wire_calls.Call.TheVariants.{Tried}
+use Rattle.ddt_sockets.specs.declared.wire_calls.NetFault.{NetFault}
+use Rattle.ddt_asking.specs.declared.probe_options.ProbeOptions.{ProbeOptions}
+use Rattle.ddt_asking.specs.declared.reply_match.AwaitedReply.{AwaitedReply}
+use Rattle.ddt_asking.specs.declared.await_reply.Wait.{Wait}
 use Rattle.ddt_asking.specs.Steps.{WireStep, step_of}
 use Rattle.ddt_asking.specs.Waits.{IsWait}
 
 -- the wait for a reply, from the moment behind the request on
-abbrev pub wait_for : Manner → Awaited → ℕ → Wait
+abbrev pub wait_for : ProbeOptions → AwaitedReply → ℕ → Wait
 wait_for m a now = record { at = m.me; awaited = Some a; since = now; millis = m.millis }
 
-module _ (m : Manner) (request : List ℕ) (a : Awaited) where
+module _ (m : ProbeOptions) (request : List ℕ) (a : AwaitedReply) where
   -- A try, and the reply that it brings. `sent`: the request is sent to port 4342 of the server, and then the reply is
   -- waited for. `lost`: it can't be sent, and nothing is waited for.
   pub data IsTry : List WireStep → Option (List ℕ) → Type 0 where

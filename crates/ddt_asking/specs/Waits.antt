@@ -2,10 +2,10 @@
 use Rattle.std.specs.Prelude.{ℕ, ◌≡◌, ◌-◌, ◌<◌, ◌≤◌, List, [], ◌∷◌, ◌++◌, length, Option, Some, None}
 use Rattle.std.specs.List.{All}
 use Rattle.ddt_path.specs.declared.locator.Locator.{Locator}
-use Rattle.ddt_wires.specs.declared.call.Call.{Call}
-use Rattle.ddt_wires.specs.declared.call.Call.TheVariants.{Received, Tried}
-use Rattle.ddt_wires.specs.Turns.{most_bytes}
-use Rattle.ddt_asking.specs.declared.wait.Wait.{Wait}
+use Rattle.ddt_sockets.specs.declared.wire_calls.Call.{Call}
+use Rattle.ddt_sockets.specs.declared.wire_calls.Call.TheVariants.{Received, Tried}
+use Rattle.ddt_sockets.specs.Turns.{most_bytes}
+use Rattle.ddt_asking.specs.declared.await_reply.Wait.{Wait}
 use Rattle.ddt_asking.specs.Replies.{reply_of}
 use Rattle.ddt_asking.specs.Steps.{WireStep}
 

@@ -1,5 +1,5 @@
-//! The identifiers that are asked about where nobody names any: one of each block that a register assigns alike, or one
-//! of each that a change of the register assigns anew.
+//! The identifiers that a probe asks about if nobody names any: one of each block that a register assigns alike, or one
+//! of each block whose assignment a change of the register alters.
 
 ghost use Rattle.std.specs.Prelude.{◌≡◌, List, [], map, IfOk, MatchResult, ⊤};
 ghost use Rattle.ddt_path.specs.Path.{xeid_path};
@@ -14,13 +14,13 @@ use ddt_path::{Locator, Prefix, Xeid};
 use ddt_plan::{Block, Change, Reading, Sink, blocks, changes};
 use std::alloc::{AllocError, Global};
 
-/// An identifier of each prefix that was given, in their order.
+/// Collects an identifier of each prefix that it is given, in their order.
 #[derive(Drop)]
-struct Inner {
+struct IdentifierSink {
     identifiers: Vec<Xeid>,
 }
 
-impl Inner {
+impl IdentifierSink {
     fn push(&mut self, prefix: Prefix) -> Result<(), AllocError>
         ensures { MatchResult result (λ _. AddsInside prefix self.old.identifiers.items self.new.identifiers.items)
             (λ _. ⊤) }
@@ -30,7 +30,7 @@ impl Inner {
     }
 }
 
-impl Sink<Block> for Inner {
+impl Sink<Block> for IdentifierSink {
     type Refusal = AllocError;
 
     ghost takes = { λ before block answer after. MatchResult answer
@@ -41,7 +41,7 @@ impl Sink<Block> for Inner {
     }
 }
 
-impl Sink<Change> for Inner {
+impl Sink<Change> for IdentifierSink {
     type Refusal = AllocError;
 
     ghost takes = { λ before change answer after. MatchResult answer
@@ -52,7 +52,7 @@ impl Sink<Change> for Inner {
     }
 }
 
-/// The prefix that covers everything.
+/// Returns the prefix that covers everything.
 fn everything() -> Prefix
     ensures { result ≡ [] }
 {
@@ -63,13 +63,13 @@ fn everything() -> Prefix
     Prefix::cut(any, 0)
 }
 
-/// An identifier of each block of a register, in their order, as `ddt_plan::blocks` gives the blocks. A register of
-/// 65,535 rows has up to some nine million. Fails only if out of memory.
+/// Returns an identifier of each block of a register, in the order of `ddt_plan::blocks`. A register of 65,535 rows has
+/// up to some nine million.
 pub fn block_identifiers(alloc: Global, accepted: &Accepted) -> Result<Vec<Xeid>, AllocError>
     ensures { IfOk result (λ xs. (all : List ABlock) × AreBlocks accepted.now [] all
         × AreInside (map (λ b. b.prefix) all) (map xeid_path xs.items)) }
 {
-    let mut inner = Inner {
+    let mut inner = IdentifierSink {
         identifiers: Vec::new(alloc),
     };
     match blocks(alloc, accepted, everything(), &mut inner) {
@@ -78,8 +78,8 @@ pub fn block_identifiers(alloc: Global, accepted: &Accepted) -> Result<Vec<Xeid>
     }
 }
 
-/// An identifier of each block whose assignment differs from one register to another, be it only by its prefix, in
-/// their order, as `ddt_plan::changes` gives the blocks. Fails only if out of memory.
+/// Returns an identifier of each block whose assignment differs between two registers, even if only by its prefix, in
+/// the order of `ddt_plan::changes`.
 pub fn changed_identifiers(
     alloc: Global,
     before: &Accepted,
@@ -88,7 +88,7 @@ pub fn changed_identifiers(
     ensures { IfOk result (λ xs. (all : List AChange) × AreChanges Exact before.now after.now [] all
         × AreInside (map (λ c. c.prefix) all) (map xeid_path xs.items)) }
 {
-    let mut inner = Inner {
+    let mut inner = IdentifierSink {
         identifiers: Vec::new(alloc),
     };
     match changes(

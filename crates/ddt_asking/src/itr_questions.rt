@@ -1,4 +1,4 @@
-//! The question of an ITR to a Map-Resolver, and whether what comes of it can be seen.
+//! The question of an ITR to a Map-Resolver, and whether the ITR sees the result.
 
 ghost use Rattle.std.specs.Prelude.{◌≡◌};
 ghost use Rattle.ddt_path.specs.Path.{xeid_path};
@@ -10,7 +10,8 @@ use crate::question::Question;
 use ddt_check::{Accepted, assign};
 use ddt_path::{Locator, Outcome, Prefix, ReferralRecord, Xeid, longest_match};
 
-/// The question to a Map-Resolver about an identifier. The record of its assignment says what an ITR has to get.
+/// Returns the question to a Map-Resolver about an identifier. The record of its assignment says what an ITR has to
+/// get.
 pub fn itr_question(accepted: &Accepted, resolver: Locator, x: Xeid) -> Question
     ensures { result ≡ record { to = resolver; demanded = record_of (assignment accepted.now (xeid_path x)) } }
 {
@@ -20,8 +21,9 @@ pub fn itr_question(accepted: &Accepted, resolver: Locator, x: Xeid) -> Question
     }
 }
 
-/// Whether an ITR sees what comes of its question, with this address of an ETR or none. It gets a negative Map-Reply;
-/// but of a registered site its request goes to an ETR, which it is only where the site has this ETR and no other.
+/// Returns whether an ITR, which may be an ETR at the address `etr`, sees the result of its question. It sees a
+/// negative Map-Reply. In a registered site its request goes to an ETR, which is the ITR itself only if `etr` is the
+/// site's only ETR.
 pub fn can_be_seen(accepted: &Accepted, etr: Option<Locator>, x: Xeid) -> bool
     ensures { result ≡ can_be_seen_of accepted.now etr (xeid_path x) }
 {

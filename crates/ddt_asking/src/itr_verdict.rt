@@ -1,20 +1,21 @@
-//! What is found of an ITR's question to a Map-Resolver: whether the ITR gets what it has to.
+//! The verdict on an ITR's question to a Map-Resolver: whether the ITR gets what the register demands.
 
 ghost use Rattle.std.specs.Prelude.{◌≡◌, ◌↔◌, Some, IfOk, IsTrue};
 ghost use Rattle.ddt_asking.specs.ItrVerdicts.{IsDue, IsItrVerdict, IsNegative, IsNegativeFor};
 
-use crate::reply::is_forwarded;
+use crate::reply_match::is_forwarded;
 use crate::verdict::Verdict;
 use ddt_path::{Action, Listed, ReferralRecord, Xeid};
 use ddt_wire::{NegativeReply, read_negative_reply};
 use std::alloc::{AllocError, Global};
 
-/// What a message of these bytes comes to for an ITR that asked for an identifier under this nonce, where the register
-/// assigns this record to it. Of a registered site the ITR, which is an ETR too, has to get its own request. Elsewhere
-/// it has to get a negative Map-Reply with the record's TTL, for a prefix inside the record's that covers the
-/// identifier (RFC 9301, section 5.4; RFC 8111, section 7.3). Any spelling of these will do. Fails only if out of
-/// memory.
-pub fn judged_for_itr(
+/// Returns the verdict on a message to an ITR that asked for the identifier `x` with this nonce, if the register
+/// assigns the record `demanded` to `x`.
+///
+/// In a registered site the ITR, which is an ETR too, has to get its own request. Elsewhere it has to get a negative
+/// Map-Reply with the record's TTL, for a prefix inside the record's that covers `x` (RFC 9301, section 5.4; RFC 8111,
+/// section 7.3). Any spelling of these is accepted.
+pub fn verdict_of_itr_reply(
     alloc: Global,
     x: Xeid,
     demanded: &ReferralRecord,
@@ -30,7 +31,7 @@ pub fn judged_for_itr(
     Ok(Verdict::Differs(Listed::of(reply)))
 }
 
-/// Whether the bytes are what the ITR has to get.
+/// Returns whether the bytes are what the ITR has to get.
 fn is_due(x: Xeid, demanded: &ReferralRecord, nonce: u64, bytes: &[u8]) -> bool
     ensures { IsTrue result ↔ IsDue x demanded.now nonce bytes.now }
 {

@@ -1,4 +1,4 @@
-//! The questions that a register has for an identifier: each server of each referral set, and what it has to say.
+//! The questions of a register about an identifier: each server of each referral set, and the record it has to answer.
 
 ghost use Rattle.std.specs.Prelude.{◌≡◌, ◌<◌, ◌++◌, length, map, IfOk, OnOk};
 ghost use Rattle.ddt_path.specs.Path.{xeid_path};
@@ -22,9 +22,9 @@ pub struct Question {
     pub demanded: ReferralRecord,
 }
 
-/// The questions for an identifier, in the order in which they are asked: to each server of the root, and then to each
-/// server of each referral set that the register demands, down to the Map-Servers or to the nodes that know of a hole
-/// (RFC 8111, sections 6.1 and 7.3). What servers answer changes nothing here. Fails only if out of memory.
+/// Returns the questions about an identifier, in the order in which they are asked. They go to each server of the root,
+/// and then to each server of each referral set that the register demands, down to the Map-Servers or to the nodes of a
+/// delegation hole (RFC 8111, sections 6.1 and 7.3). They don't depend on what servers answer.
 pub fn questions_of(
     alloc: Global,
     accepted: &Accepted,
@@ -46,14 +46,14 @@ pub fn questions_of(
     Ok(questions)
 }
 
-/// The referral to the root's servers, as if somebody had sent it.
+/// Returns the referral to the root's servers, as if somebody had sent it.
 fn root_referral(accepted: &Accepted, x: Xeid) -> ReferralRecord
     ensures { result ≡ root_referral_of accepted.now }
 {
     ReferralRecord::referral(Role::Node, Prefix::cut(x, 0), accepted.roots())
 }
 
-/// Whether an action refers to other servers.
+/// Returns whether an action refers to other servers.
 fn refers(action: Action) -> bool
     ensures { result ≡ refers_of action }
 {
@@ -66,7 +66,7 @@ fn refers(action: Action) -> bool
     }
 }
 
-/// Appends the question to each of these servers. Fails only if out of memory, and then some of them may be there.
+/// Appends the question to each of these servers. If out of memory, some of them may have been appended.
 fn push_set(
     questions: &mut Vec<Question>,
     accepted: &Accepted,
@@ -85,7 +85,7 @@ fn push_set(
     Ok(())
 }
 
-/// What the first of these servers has to say.
+/// Returns the record that the first of these servers has to answer.
 fn said_by(accepted: &Accepted, servers: LocatorSet, x: Xeid) -> ReferralRecord
     requires { 0 < length servers }
     ensures { result ≡ says_of accepted.now (first_locator servers) (xeid_path x) }

@@ -1,4 +1,4 @@
-//! Some of the identifiers, drawn at random.
+//! A random sample of the identifiers.
 
 ghost use Rattle.std.specs.Prelude.{◌≡◌, ◌<◌, Some, length, map, slice_get, All, IfOk};
 ghost use Rattle.ddt_asking.specs.Sampled.{IsSample};
@@ -8,8 +8,8 @@ use rand::seq::index::sample;
 use rand_core::Rng;
 use std::alloc::{AllocError, Global};
 
-/// So many of the identifiers, drawn at random without repetition and in their order; all of them where there are
-/// fewer. Fails only if out of memory.
+/// Returns `amount` of the identifiers, drawn at random without repetition, in their order; all of them if there are
+/// fewer.
 pub fn sampled<R: Rng>(
     alloc: Global,
     rng: &mut R,
@@ -24,7 +24,7 @@ pub fn sampled<R: Rng>(
     at_places(alloc, identifiers, &places)
 }
 
-/// The identifiers at these places.
+/// Returns the identifiers at these places.
 fn at_places(alloc: Global, identifiers: &[Xeid], places: &[usize]) -> Result<Vec<Xeid>, AllocError>
     requires { All (λ place. place < length identifiers.now) places.now }
     ensures { IfOk result (λ some. map (slice_get identifiers.now) places.now ≡ map Some some.items) }

@@ -8,8 +8,8 @@ use Rattle.std.proofs.lemmas.List.Elements.{All-push, All-contains, Contains-app
 use Rattle.std.proofs.lemmas.Map.Lookups.{exact_pairs, exact_unsigned, exact_bytes}
 use Rattle.std.proofs.lemmas.Map.Views.{Contains-from_any, tells_apart}
 use Rattle.ddt_trie.specs.PrefixMap.{path_cmp}
-use Rattle.ddt_cache.specs.declared.entry.Entry.{Entry}
-use Rattle.ddt_cache.specs.declared.ends.Ends.{Ends}
+use Rattle.ddt_cache.specs.declared.cache_entry.Entry.{Entry}
+use Rattle.ddt_cache.specs.declared.ends_by_time.Ends.{Ends}
 use Rattle.ddt_cache.specs.Live.{Known, live_at}
 use Rattle.ddt_cache.specs.Ends.{IsUnlisted, AreNoted}
 use Rattle.ddt_cache.specs.Inside.{AreInside, IsRow}

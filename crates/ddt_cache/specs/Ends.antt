@@ -5,8 +5,8 @@ use Rattle.std.specs.Ordering.{nat_cmp, ordering_then}
 use Rattle.std.specs.FinMap.{FinMap, get}
 use Rattle.std.specs.BTreeSet.{contains}
 use Rattle.ddt_trie.specs.PrefixMap.{path_cmp}
-use Rattle.ddt_cache.specs.declared.entry.Entry.{Entry}
-use Rattle.ddt_cache.specs.declared.ends.Ends.{Ends}
+use Rattle.ddt_cache.specs.declared.cache_entry.Entry.{Entry}
+use Rattle.ddt_cache.specs.declared.ends_by_time.Ends.{Ends}
 
 -- the order of listed ends: by the moment, then by the prefix
 abbrev pub end_cmp : ℕ × List ℕ → ℕ × List ℕ → Ordering

@@ -5,7 +5,7 @@ use Rattle.ddt_path.specs.declared.action.Action.{Action}
 use Rattle.ddt_path.specs.declared.action.Action.TheVariants.{NodeReferral, MsReferral, MsAck, MsNotRegistered, DelegationHole, NotAuthoritative}
 use Rattle.ddt_path.specs.declared.record.ReferralRecord.{ReferralRecord}
 use Rattle.ddt_path.specs.Records.{positive_ttl, hole_ttl, not_authoritative_ttl}
-use Rattle.ddt_cache.specs.declared.entry.Entry.{Entry}
+use Rattle.ddt_cache.specs.declared.cache_entry.Entry.{Entry}
 use Rattle.ddt_cache.specs.Moment.{minute}
 
 -- whether an action names servers to ask: NODE-REFERRAL, MS-REFERRAL and MS-ACK

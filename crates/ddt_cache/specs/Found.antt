@@ -1,7 +1,7 @@
 -- What a cache finds for an identifier: the longest live match (RFC 8111, section 7.3).
 use Rattle.std.specs.Prelude.{ℕ, ◌≡◌, ◌⊎◌, List, []}
 use Rattle.ddt_trie.specs.PrefixMap.{IsCovered, IsLongest}
-use Rattle.ddt_cache.specs.declared.entry.Entry.{Entry}
+use Rattle.ddt_cache.specs.declared.cache_entry.Entry.{Entry}
 use Rattle.ddt_cache.specs.Entry.{root_entry}
 use Rattle.ddt_cache.specs.Live.{Known}
 

@@ -3,7 +3,7 @@ use Rattle.std.specs.Prelude.{ℕ, ◌≡◌, ◌≢◌, ◌<◌, ◌≤◌, ◌
 use Rattle.std.specs.FinMap.{get, len}
 use Rattle.ddt_path.specs.declared.action.Action.TheVariants.{NotAuthoritative}
 use Rattle.ddt_path.specs.Locators.{most_locators}
-use Rattle.ddt_cache.specs.declared.entry.Entry.{Entry}
+use Rattle.ddt_cache.specs.declared.cache_entry.Entry.{Entry}
 use Rattle.ddt_cache.specs.Moment.{last_moment, minute}
 use Rattle.ddt_cache.specs.Entry.{is_positive, is_negative, most_positive_minutes, most_negative_minutes}
 use Rattle.ddt_cache.specs.Live.{Known}

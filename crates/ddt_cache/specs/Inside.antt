@@ -3,7 +3,7 @@ use Rattle.std.specs.Prelude.{ℕ, ◌≡◌, ◌<◌, IsTrue, List, All, Contai
 use Rattle.std.specs.FinMap.{FinMap, get}
 use Rattle.ddt_path.specs.Covers.{covers}
 use Rattle.ddt_trie.specs.PrefixMap.{path_cmp}
-use Rattle.ddt_cache.specs.declared.entry.Entry.{Entry}
+use Rattle.ddt_cache.specs.declared.cache_entry.Entry.{Entry}
 use Rattle.ddt_cache.specs.Live.{Known}
 
 -- a row is that of a live entry, and its prefix is `within` or inside it

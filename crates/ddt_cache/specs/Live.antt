@@ -4,7 +4,7 @@ use Rattle.std.specs.FinMap.{FinMap, empty, get, retain_keys, remove, code}
 use Rattle.std.specs.Coded.{Coded, code_by, coded×, coded_ℕ, coded_list}
 use Rattle.ddt_path.specs.declared.locator.Locator.{Locator}
 use Rattle.ddt_trie.specs.PrefixMap.{path_cmp}
-use Rattle.ddt_cache.specs.declared.entry.Entry.{Entry}
+use Rattle.ddt_cache.specs.declared.cache_entry.Entry.{Entry}
 
 -- the time in milliseconds, the live entries by their prefixes, and the locators of the root's servers
 pub record Known : Type 0 where

@@ -3,9 +3,9 @@ use Rattle.std.specs.Prelude.{ℕ, Bool, ◌||◌, ◌&&◌, not, length, nat_lt
 use Rattle.std.specs.FinMap.{FinMap, insert, contains_key, len}
 use Rattle.ddt_path.specs.declared.record.ReferralRecord.{ReferralRecord}
 use Rattle.ddt_trie.specs.PrefixMap.{path_cmp}
-use Rattle.ddt_cache.specs.declared.entry.Entry.{Entry}
-use Rattle.ddt_cache.specs.declared.entry.Saved.{Saved}
-use Rattle.ddt_cache.specs.declared.entry.Saved.TheVariants.{Saved as IsSaved, NotSaved, Full}
+use Rattle.ddt_cache.specs.declared.cache_entry.Entry.{Entry}
+use Rattle.ddt_cache.specs.declared.cache_entry.Saved.{Saved}
+use Rattle.ddt_cache.specs.declared.cache_entry.Saved.TheVariants.{Saved as IsSaved, NotSaved, Full}
 use Rattle.ddt_cache.specs.Entry.{is_positive, is_negative, entry_of}
 use Rattle.ddt_cache.specs.Live.{Known}
 

@@ -1,5 +1,5 @@
-//! A cache of referrals (RFC 8111, section 7.3). It keeps its own time, the greatest moment that a call was given, so
-//! that a clock that goes back brings no entry back.
+//! A cache of referrals (RFC 8111, section 7.3). It has its own time, the greatest moment given to a call, so that no
+//! entry comes back when the clock goes back.
 
 ghost use Rattle.std.specs.Prelude.{◌≡◌, ◌≤◌, IsTrue, length, take, IsOk, IfOk, OnOk, OnErr};
 ghost use Rattle.std.specs.FinMap as map;
@@ -10,11 +10,11 @@ ghost use Rattle.ddt_cache.specs.Found.{IsFound};
 ghost use Rattle.ddt_cache.specs.InOrder.{IsCacheInOrder};
 ghost use Rattle.ddt_cache.specs.Inside.{AreInside};
 
-use crate::dropped::{drop_ended, drop_entry};
-use crate::ends::Ends;
-use crate::entry::{Entry, Saved};
-use crate::inside::rows_inside;
-use crate::longest_live::{Held, drop_ended_over, longest_live_over};
+use crate::cache_entry::{Entry, Saved};
+use crate::ends_by_time::Ends;
+use crate::entries_inside::rows_inside;
+use crate::entry_removal::{drop_ended, drop_entry};
+use crate::longest_live_match::{Held, drop_ended_over, longest_live_over};
 use crate::moment::Moment;
 use crate::saved_records::save_among;
 use ddt_path::{Action, LocatorSet, Prefix, ReferralRecord, Xeid};
@@ -22,7 +22,7 @@ use ddt_trie::PrefixMap;
 use std::alloc::{AllocError, Global};
 use std::marker::Model;
 
-/// The entries that are live, the time, and the root's locators. Contracts see just these.
+/// A cache: its live entries, its time, and the root's locators. Contracts see only these.
 #[derive(Drop)]
 pub struct Cache<M: PrefixMap<Entry>> {
     held: Held<M>,
@@ -34,7 +34,7 @@ impl<M: PrefixMap<Entry>> Model for Cache<M> {
     ghost use Rattle.std.specs.Prelude.{◌≡◌, ◌≤◌};
     ghost use Rattle.std.specs.FinMap as map;
     ghost use Rattle.ddt_path.specs.contracts.locator.Locator as locator;
-    ghost use Rattle.ddt_cache.specs.contracts.entry.Entry as entry;
+    ghost use Rattle.ddt_cache.specs.contracts.cache_entry.Entry as entry;
     ghost use Rattle.ddt_cache.specs.Entry.{root_entry};
     ghost use Rattle.ddt_cache.specs.Live.{Known, known_code, known_of};
     ghost use Rattle.ddt_cache.specs.Ends.{AreNoted};
@@ -53,7 +53,7 @@ impl<M: PrefixMap<Entry>> Model for Cache<M> {
         × AreNoted c.ends (M.content c.held.entries) };
 }
 
-/// What was found for the identifier, with its prefix in place of the prefix's length.
+/// The found entry with its prefix, in place of the prefix's length.
 fn with_prefix<'a>(x: Xeid, found: (u8, &'a Entry)) -> (Prefix, &'a Entry)
     requires { found.0 ≤ length (xeid_path x) }
     ensures prefix { result.0 ≡ take found.entry.0 (xeid_path x) }
@@ -68,12 +68,12 @@ impl<M: PrefixMap<Entry>> Cache<M> {
     ghost use Rattle.ddt_cache.specs.Lending.{EndsAs};
     ghost use Rattle.ddt_cache.specs.contracts.cache.Cache.{the_row};
 
-    /// A cache at moment 0 with no entry but the root's, whose locators are these. It takes its memory from `alloc` as
-    /// it grows.
+    /// Creates a cache at moment 0 with no entry but the root's, whose locators are `roots`. It takes its memory from
+    /// `alloc` as it grows.
     pub fn new(alloc: Global, roots: LocatorSet) -> Cache<M>
         ensures { result ≡ nothing_known roots }
     {
-        // The slice tells the proof that the set holds at most 8 locators.
+        // The slice shows the proof that the set holds at most 8 locators.
         let _few = roots.as_slice();
         Cache {
             held: Held {
@@ -89,7 +89,7 @@ impl<M: PrefixMap<Entry>> Cache<M> {
         }
     }
 
-    /// The time: the greatest moment that a call was given, at first 0.
+    /// The time: the greatest moment given to a call, 0 at first.
     pub fn time(&self) -> Moment
         ensures { result ≡ self.now.time }
     {
@@ -103,24 +103,23 @@ impl<M: PrefixMap<Entry>> Cache<M> {
         self.held.root.servers
     }
 
-    /// What holds of each cache: the time is a moment, and at most 65,536 entries are live. Each entry ends after the
-    /// time, at most 86,400,000 milliseconds after it, and at most 900,000 where it is negative. None is
-    /// NOT-AUTHORITATIVE, and each positive one has a locator and a prefix that isn't everything. The call does
-    /// nothing.
+    /// Does nothing; its contract is what holds of every cache. The time is a moment, and at most 65,536 entries are
+    /// live. Each entry ends after the time, at most 86,400,000 milliseconds after it, and at most 900,000 if it is
+    /// negative. None is NOT-AUTHORITATIVE, and each positive one has a locator and a prefix that isn't everything.
     pub fn in_order(&self)
         ensures { IsCacheInOrder self.now }
     {
         let _held = &self.held;
     }
 
-    /// Moves the time to `now`, where that is later.
+    /// Moves the time to `now` if `now` is later.
     pub fn advance(&mut self, now: Moment)
         ensures { self.new ≡ moved now self.old }
     {
         self.time = self.time.max(now.millis());
     }
 
-    /// Moves the time to `now`, where that is later, and gives back the room of the entries that have ended.
+    /// Moves the time to `now` if `now` is later, and removes the entries that have ended.
     pub fn purge(&mut self, now: Moment)
         ensures { self.new ≡ moved now self.old }
     {
@@ -128,7 +127,7 @@ impl<M: PrefixMap<Entry>> Cache<M> {
         drop_ended(&mut self.held.entries, &mut self.ends, self.time, 0);
     }
 
-    /// How many entries are live at `now`, the root's not among them.
+    /// The number of live entries at `now`, without the root's.
     pub fn len(&mut self, now: Moment) -> usize
         ensures moved { self.new ≡ moved now self.old }
         ensures count { result ≡ map.len self.new.live }
@@ -139,8 +138,8 @@ impl<M: PrefixMap<Entry>> Cache<M> {
         entries.len()
     }
 
-    /// How many entries it holds, the root's not among them: those that are live, and those that have ended since and
-    /// aren't dropped yet. Contracts don't see the latter, so the clause has no more than the limit.
+    /// The number of entries in memory, without the root's: the live ones, and those that have ended but aren't removed
+    /// yet. Contracts see only the live ones, so the clauses are bounds.
     pub fn held(&self) -> usize
         ensures most { result ≤ most_live_entries }
         ensures least { map.len self.now.live ≤ result }
@@ -148,17 +147,17 @@ impl<M: PrefixMap<Entry>> Cache<M> {
         self.held.entries.len()
     }
 
-    /// The live entries whose prefixes are `within` or inside it, in the order of their ends, each once. The root's is
-    /// not among them. Fails only if out of memory, also where memory ran out for the list of ends and an entry that it
-    /// lacks may still be live.
+    /// The live entries whose prefixes are `within` or inside it, in the order of their ends, each once and without the
+    /// root's. Fails only if out of memory, or if memory ran out earlier for the list of ends and an entry that is
+    /// missing there may still be live.
     pub fn inside(&self, alloc: Global, within: Prefix) -> Result<Vec<(Prefix, Entry)>, AllocError>
         ensures { IfOk result (λ rows. AreInside self.now within rows.items) }
     {
         rows_inside(alloc, &self.held.entries, &self.ends, self.time, within)
     }
 
-    /// Of the live entries whose prefixes cover the identifier, that of the longest prefix, lent; where there is none,
-    /// the root's, with the prefix that is everything. The cache is moved when the entry is given back: `after`.
+    /// Borrows the live entry with the longest prefix that covers the identifier; if none does, the root's entry, with
+    /// the prefix that is everything. The clause `after` is the cache at the end of the borrow: its time has moved.
     pub fn find(&mut self, now: Moment, x: Xeid) -> (Prefix, &Entry)
         ensures* after { sem 𝓛 (EndsAs (the_row M.row M.PrefixMap) self.entry (moved now self.old)) }
         ensures found { IsFound (moved now self.old) (xeid_path x) result.0 result.1.now }
@@ -166,8 +165,8 @@ impl<M: PrefixMap<Entry>> Cache<M> {
         with_prefix(x, self.longest_live(now, x))
     }
 
-    /// The same as `find`, by value. Where the toolchain writes a caller's proof, it learns what the cache knows
-    /// afterwards from this contract, and nothing from `after` of `find`.
+    /// The same as `find`, but returns a copy of the entry. The automatic proof of a caller learns the cache after the
+    /// call from this contract, and nothing from the clause `after` of `find`.
     pub fn find_copied(&mut self, now: Moment, x: Xeid) -> (Prefix, Entry)
         ensures moved { self.new ≡ moved now self.old }
         ensures found { IsFound self.new (xeid_path x) result.0 result.1 }
@@ -180,7 +179,7 @@ impl<M: PrefixMap<Entry>> Cache<M> {
         (Prefix::cut(x, 0), self.held.root)
     }
 
-    /// The same as `find`, but of the prefix its length. The cache is moved when the entry is given back: `after`.
+    /// The same as `find`, but with the prefix's length in place of the prefix.
     fn longest_live(&mut self, now: Moment, x: Xeid) -> (u8, &Entry)
         ensures* after { sem 𝓛 (EndsAs (the_row M.row M.PrefixMap) self.entry (moved now self.old)) }
         ensures short { result.0 ≤ length (xeid_path x) }
@@ -192,13 +191,15 @@ impl<M: PrefixMap<Entry>> Cache<M> {
         (prefix.len(), entry)
     }
 
-    /// Saves a record at `now`, in place of the live entry of its prefix where there is one. It ends its TTL after the
-    /// cache's time, a DELEGATION-HOLE and an MS-NOT-REGISTERED at most 15 minutes after it, the others at most 1440.
+    /// Saves a record at `now`; it replaces the live entry of its prefix, if there is one. The entry ends its TTL, in
+    /// minutes, after the cache's time: at most 15 minutes for a DELEGATION-HOLE or an MS-NOT-REGISTERED, at most 1440
+    /// for any other.
     ///
-    /// NotSaved where its TTL is 0, its action NOT-AUTHORITATIVE, or its action positive (NODE-REFERRAL, MS-REFERRAL,
-    /// MS-ACK) with no locator or with the prefix that is everything. Else Full where 65,536 entries are live and none
-    /// has its prefix. Neither changes an entry. It fails only if out of memory, which a record that takes the place of
-    /// a live entry never is; then only the time has moved.
+    /// Returns NotSaved if its TTL is 0, its action is NOT-AUTHORITATIVE, or its action is positive (NODE-REFERRAL,
+    /// MS-REFERRAL, MS-ACK) and it has no locator or the prefix that is everything. Otherwise returns Full if 65,536
+    /// entries are live and none has its prefix. Neither changes an entry.
+    ///
+    /// Fails only if out of memory, which a record that replaces a live entry never is; then only the time has moved.
     pub fn save(&mut self, now: Moment, referral: &ReferralRecord) -> Result<Saved, AllocError>
         ensures stored { OnOk result (self.new ≡ stored_in (moved now self.old) referral.now) }
         ensures answer { IfOk result (λ saved. saved ≡ saving (moved now self.old).live referral.now) }
@@ -210,7 +211,7 @@ impl<M: PrefixMap<Entry>> Cache<M> {
         save_among(&mut self.held.entries, &mut self.ends, self.time, referral)
     }
 
-    /// Forgets the entry of a prefix, and answers whether a live one went. The root's is never forgotten.
+    /// Forgets the entry of a prefix, and returns whether a live one was there. The root's is never forgotten.
     pub fn forget(&mut self, prefix: Prefix) -> bool
         ensures forgotten { self.new ≡ forgotten self.old prefix }
         ensures went { result ≡ map.contains_key self.old.live prefix }

@@ -1,4 +1,4 @@
-//! A moment of the resolver's clock, which is given from outside.
+//! A moment of the resolver's clock; the caller reads the clock.
 
 ghost use Rattle.std.specs.Prelude.{◌≡◌, ◌≤◌};
 ghost use Rattle.std.specs.Option.{SomeIff};
@@ -40,7 +40,7 @@ impl Moment {
         }
     }
 
-    /// How many milliseconds it is.
+    /// The number of milliseconds.
     pub fn millis(self) -> u64
         ensures value { result ≡ self }
         ensures bound { self ≤ last_moment }
@@ -48,7 +48,7 @@ impl Moment {
         self.millis
     }
 
-    /// The moment of this many milliseconds, which are no more than the last moment has.
+    /// The moment of this many milliseconds, at most `LAST_MOMENT`.
     pub(crate) fn of(millis: u64) -> Moment
         requires { millis ≤ last_moment }
         ensures { result ≡ millis }

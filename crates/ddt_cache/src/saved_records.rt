@@ -1,4 +1,4 @@
-//! Which records are saved, with which end, and the room for them (RFC 8111, sections 6.4 and 7.3).
+//! Saving a record: whether it is saved, its end, and the room for it (RFC 8111, sections 6.4 and 7.3).
 
 ghost use Rattle.std.specs.Prelude.{◌≡◌, ◌≤◌, length, IsTrue, IfOk, OnOk, OnErr, IsOk};
 ghost use Rattle.std.specs.FinMap as map;
@@ -9,38 +9,31 @@ ghost use Rattle.ddt_cache.specs.Live.{live_at};
 ghost use Rattle.ddt_cache.specs.Ends.{AreNoted};
 ghost use Rattle.ddt_cache.specs.Saved.{most_live_entries, savable, has_room, is_added, saving, stored};
 
-use crate::dropped::{drop_ended, is_live};
-use crate::ends::Ends;
-use crate::entry::{Entry, Saved};
-use ddt_path::{Action, HOLE_TTL, NOT_AUTHORITATIVE_TTL, POSITIVE_TTL, Prefix, ReferralRecord};
+use crate::cache_entry::{Entry, Saved};
+use crate::ends_by_time::Ends;
+use crate::entry_removal::{drop_ended, is_live};
+use crate::limits::{MOST_LIVE_ENTRIES, NEGATIVE_TTL_CAP_MINUTES, POSITIVE_TTL_CAP_MINUTES};
+use ddt_path::{Action, NOT_AUTHORITATIVE_TTL, Prefix, ReferralRecord};
 use ddt_trie::PrefixMap;
 use std::alloc::AllocError;
 
-/// How many live entries a cache has at most.
-pub const MOST_LIVE_ENTRIES: usize = 65536;
+/// The number of milliseconds in a minute.
+const MS_PER_MINUTE: u64 = 60_000;
 
-/// How many minutes a positive record is kept at most: a day, as honest servers allow.
-const MOST_POSITIVE_MINUTES: u32 = POSITIVE_TTL;
-
-/// How many minutes a negative record is kept at most: as honest servers allow for a hole.
-const MOST_NEGATIVE_MINUTES: u32 = HOLE_TTL;
-
-/// How many milliseconds a minute has.
-const MINUTE: u64 = 60_000;
-
-/// How many minutes a record of an action is kept at most.
+/// The cap on the TTL of a saved record of an action, in minutes.
 fn most_minutes(action: Action) -> u32
     ensures value { result ≡ most_minutes_of action }
     ensures bound { result ≤ most_positive_minutes }
 {
     match action {
-        Action::NodeReferral | Action::MsReferral | Action::MsAck => MOST_POSITIVE_MINUTES,
-        Action::MsNotRegistered | Action::DelegationHole => MOST_NEGATIVE_MINUTES,
+        Action::NodeReferral | Action::MsReferral | Action::MsAck => POSITIVE_TTL_CAP_MINUTES,
+        Action::MsNotRegistered | Action::DelegationHole => NEGATIVE_TTL_CAP_MINUTES,
         Action::NotAuthoritative => NOT_AUTHORITATIVE_TTL,
     }
 }
 
-/// Whether a record is one to keep.
+/// Whether a record is one to save: its TTL isn't 0 and its action isn't NOT-AUTHORITATIVE; a positive one also has a
+/// locator and a prefix that isn't everything.
 fn is_savable(referral: &ReferralRecord) -> bool
     ensures { result ≡ savable referral.now }
 {
@@ -53,8 +46,8 @@ fn is_savable(referral: &ReferralRecord) -> bool
     }
 }
 
-/// Whether there is room for an entry of a prefix. Where 65,536 entries are there and none of them is a live one of the
-/// prefix, one that has ended is removed first.
+/// Whether there is room for an entry of a prefix. If 65,536 entries are held and none is a live entry of the prefix,
+/// an entry that has ended is removed first.
 fn make_room<M: PrefixMap<Entry>>(
     entries: &mut M,
     ends: &mut Ends,
@@ -80,7 +73,7 @@ fn make_room<M: PrefixMap<Entry>>(
     entries.get(prefix).is_some() || entries.len() < MOST_LIVE_ENTRIES
 }
 
-/// The entry of a record that is saved at a time.
+/// The entry of a record that is saved at `time`, in milliseconds.
 fn entry_at(time: u64, referral: &ReferralRecord) -> Entry
     requires { time ≤ last_moment }
     ensures { result ≡ entry_of time referral.now }
@@ -89,11 +82,12 @@ fn entry_at(time: u64, referral: &ReferralRecord) -> Entry
     Entry {
         action: referral.action,
         servers: referral.servers,
-        end: time + minutes as u64 * MINUTE,
+        end: time + minutes as u64 * MS_PER_MINUTE,
     }
 }
 
-/// Saves a record among entries of which some may have ended.
+/// Saves a record at `time`, in milliseconds; some of the entries may have ended by then. Fails only if out of memory,
+/// which a record that replaces a live entry never is.
 pub(crate) fn save_among<M: PrefixMap<Entry>>(
     entries: &mut M,
     ends: &mut Ends,
@@ -114,7 +108,7 @@ pub(crate) fn save_among<M: PrefixMap<Entry>>(
         IsOk result }
     ensures servers { length referral.now.servers ≤ most_locators }
 {
-    // The slice tells the proof that a set holds at most 8 locators.
+    // The slice shows the proof that a set holds at most 8 locators.
     let _few = referral.servers.as_slice();
     if !is_savable(referral) {
         return Ok(Saved::NotSaved);

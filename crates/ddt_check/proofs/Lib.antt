@@ -9,5 +9,7 @@ pub mod EntryKinds
 pub mod EntryLemmas
 pub mod ColumnLemmas
 pub mod MarkLemmas
+pub mod FingerprintLemmas
+pub mod FrontLemmas
 pub mod WrongLemmas
 pub mod RuleLemmas

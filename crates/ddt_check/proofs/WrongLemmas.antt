@@ -107,7 +107,31 @@ module _ (r : Register) where
         meets_wrong k f.0 v.0 n f.1 (in_later f.0.locators k v.0 v.1) v.2
   ]
 
+  -- a group of an earlier row that has a locator of this one
+  shared_with : (g : Group) → repeats g ≡ true
+      → (h : Group) × (l : Locator) × IsIn h r.groups × (h.row < g.row) × IsIn l h.locators × IsIn l g.locators
+  shared_with g e =
+      let s = any_in (λ (h : Group). nat_lt h.row g.row && share h.locators g.locators) r.groups e in
+      let h = s.0 in
+      let q = and_parts (nat_lt h.row g.row) (share h.locators g.locators) s.2 in
+      let u = any_in (lists g.locators) h.locators q.1 in
+      let v = any_in (λ (x : Locator). is_same_locator x u.0) g.locators u.2 in
+      (h, u.0, s.1, ltb-true h.row g.row q.0, u.1, rw (same_locator v.0 u.0 v.2) at v.1)
+
   -- ---- what is wrong is found
+
+  -- where no group has a locator of an earlier one, what is wrong is wrong alone
+  pub least_alone : ((h g : Group) (l : Locator) → Before h g → IsIn l h.locators → IsIn l g.locators → ⊥)
+      → (o : Option ℕ) → IsLeastRow (λ n. group_at r n is_wrong_alone) o → IsLeastRow (broken r rules.Locators) o
+  least_alone none o = least_wider (λ n. group_at r n is_wrong_alone) (broken r rules.Locators) o (upto_wrong zero)
+      (λ n e.
+      let f = any_in (λ (g : Group). g.row == n && has_wrong_locators r g) r.groups e in
+      let g = f.0 in
+      let p = and_parts (g.row == n) (has_wrong_locators r g) f.2 in
+      elim (or_cases (is_wrong_alone g) (repeats g) (sym (wrong_parts g) ∙ p.1)) [
+        | inl alone ↦ (n, omega arith, rw (eqb-true g.row n p.0) at (at_row g is_wrong_alone f.1 alone))
+        | inr shared ↦ let s = shared_with g shared in absurd (none s.0 g s.1 (s.2, f.1, s.3) s.4 s.5)
+      ])
 
   -- where the first group of a locator in a column stands in another row than a group that has the locator from there on
   met_at : (k : ℕ) (g f : Group) (l : Locator) (n : ℕ) → IsIn g r.groups → IsIn l (drop k g.locators)
@@ -179,13 +203,7 @@ module _ (r : Register) where
         let at : g.row ≡ n = eqb-true g.row n p.0 in
         rw (← at) (elim (or_cases (is_wrong_alone g) (repeats g) (sym (wrong_parts g) ∙ p.1)) [
           | inl alone ↦ (g.row, omega arith, alone_upto k g.row (at_row g is_wrong_alone f.1 alone))
-          | inr shared ↦
-              let s = any_in (λ (h : Group). nat_lt h.row g.row && share h.locators g.locators) r.groups shared in
-              let h = s.0 in
-              let q = and_parts (nat_lt h.row g.row) (share h.locators g.locators) s.2 in
-              let u = any_in (lists g.locators) h.locators q.1 in
-              let v = any_in (λ (x : Locator). is_same_locator x u.0) g.locators u.2 in
-              shared_upto h g u.0 (s.1, f.1, ltb-true h.row g.row q.0) u.1 (rw (same_locator v.0 u.0 v.2) at v.1)
+          | inr shared ↦ let s = shared_with g shared in shared_upto s.0 g s.1 (s.2, f.1, s.3) s.4 s.5
         ])
 
     pub least_wrong : (o : Option ℕ) → IsLeastRow (wrong_upto r k) o → IsLeastRow (broken r rules.Locators) o

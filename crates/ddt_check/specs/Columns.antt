@@ -52,7 +52,7 @@ cell_pair c = (c.family, c.number)
 abbrev pub cell_key : Cell → List ℕ
 cell_key c = key_list (cell_pair c)
 
--- where the mark of a locator stands, by its number
+-- the place of the mark of a locator, by its number
 abbrev pub slot_of : ℕ → ℕ
 slot_of number = number % 262144 + number / 2 ^ 64 % 262144
 

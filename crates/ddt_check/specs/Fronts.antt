@@ -1,4 +1,4 @@
--- Numbers of 64 binary digits that settle most comparisons of prefixes and of names.
+-- Numbers of 64 binary digits that decide most comparisons of prefixes and of names.
 use Rattle.std.specs.Prelude.{ℕ, zero, suc, ◌+◌, ◌*◌, ◌/◌, ◌^◌, List, [], ◌∷◌}
 use Rattle.ddt_path.specs.declared.locator.Locator.{Locator}
 use Rattle.ddt_path.specs.declared.locator.Locator.TheVariants.{V4, V6}
@@ -16,7 +16,7 @@ abbrev pub form_front : Form → ℕ
 form_front (Range iid len) = iid * 2 ^ 32
 form_front (Block iid address len) = iid * 2 ^ 32 + address_front address
 
--- Of two prefixes with different fronts, the one of the lower front stands first.
+-- Of two prefixes with different fronts, the one of the lower front sorts first.
 -- Prefixes of one front are compared in full.
 abbrev pub prefix_front : List ℕ → ℕ
 prefix_front path = form_front (form_of path)

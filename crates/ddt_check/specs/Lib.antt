@@ -4,6 +4,7 @@ pub mod Rules
 pub mod Order
 pub mod Sorted
 pub mod Columns
+pub mod Fingerprints
 pub mod Assignment
 pub mod Says
 pub mod Worked

@@ -10,11 +10,11 @@ use Rattle.ddt_register.specs.declared.group.Group.{Group}
 abbrev pub in_order : {A : Type 0} → (A → List ℕ) → (A → ℕ) → A → A → Ordering
 in_order key row a b = ordering_then (slice_cmp nat_cmp (key a) (key b)) (nat_cmp (row a) (row b))
 
--- A list sorted by a key; items of one key stand in the order of their rows. A key stands before those that it begins.
+-- A list sorted by a key; items of one key are in the order of their rows. A key sorts before those that it begins.
 abbrev pub IsInOrder : {A : Type 0} → (A → List ℕ) → (A → ℕ) → List A → Type 0
 IsInOrder key row xs = IsSorted (in_order key row) xs
 
--- Zones by the digits of their prefixes, then by row: a zone stands before the zones inside it.
+-- Zones by the digits of their prefixes, then by row: a zone sorts before the zones inside it.
 abbrev pub AreZonesInOrder : List Zone → Type 0
 AreZonesInOrder zones = IsInOrder (λ z. z.prefix) (λ z. z.row) zones
 

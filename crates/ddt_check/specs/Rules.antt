@@ -15,23 +15,23 @@ use Rattle.ddt_check.specs.declared.fault.Rule.TheVariants as rules
 use Rattle.ddt_path.specs.Locators.{lists, are_distinct, most_locators}
 use Rattle.ddt_check.specs.Zones.{is_ms, is_same_role, zone_of, group_named}
 
--- some item of a list stands in the row and passes the test
+-- some item of a list is in the row and passes the test
 abbrev pub item_at : {A : Type 0} → (A → ℕ) → (A → Bool) → List A → ℕ → Bool
 item_at row_of test items row = list_any (λ x. row_of x == row && test x) items
 
--- Whether a zone stands in this row and passes the test: so A1, A2, A4, A5 and A7 are tested at a row.
+-- Whether a zone is in this row and passes the test: so A1, A2, A4, A5 and A7 are tested at a row.
 abbrev pub zone_at : Register → ℕ → (Zone → Bool) → Bool
 zone_at r row test = item_at (λ z. z.row) test r.zones row
 
--- Whether a site stands in this row and passes the test: so A3, A8 and A9 are tested at a row.
+-- Whether a site is in this row and passes the test: so A3, A8 and A9 are tested at a row.
 abbrev pub site_at : Register → ℕ → (Site → Bool) → Bool
 site_at r row test = item_at (λ s. s.row) test r.sites row
 
--- Whether a group stands in this row and passes the test: so A6 and A10 are tested at a row.
+-- Whether a group is in this row and passes the test: so A6 and A10 are tested at a row.
 abbrev pub group_at : Register → ℕ → (Group → Bool) → Bool
 group_at r row test = item_at (λ g. g.row) test r.groups row
 
--- some item of a list stands in an earlier row than this one and passes the test
+-- some item of a list is in an earlier row than this one and passes the test
 abbrev pub earlier_item : {A : Type 0} → (A → ℕ) → List A → A → (A → Bool) → Bool
 earlier_item row_of items x test = list_any (λ y. nat_lt (row_of y) (row_of x) && test y) items
 
@@ -55,11 +55,11 @@ is_root z = length z.prefix == 0
 abbrev pub is_wrong_root : Register → Zone → Bool
 is_wrong_root r z = is_root z && (is_ms z.kind || earlier_zone r z is_root)
 
--- A2: a zone of the same prefix stands in an earlier row
+-- A2: a zone of the same prefix is in an earlier row
 abbrev pub is_duplicate_zone : Register → Zone → Bool
 is_duplicate_zone r z = is_duplicate (λ y. y.prefix) (λ y. y.row) r.zones z
 
--- A3: a site of the same prefix stands in an earlier row; a site inside another's prefix breaks no rule
+-- A3: a site of the same prefix is in an earlier row; a site inside another's prefix breaks no rule
 abbrev pub is_duplicate_site : Register → Site → Bool
 is_duplicate_site r s = is_duplicate (λ t. t.prefix) (λ t. t.row) r.sites s
 
@@ -94,7 +94,7 @@ is_outside r s = option_map_or (λ z. not (is_ms z.kind)) (zone_of r s.prefix) t
 abbrev pub has_too_many_etrs : Site → Bool
 has_too_many_etrs s = nat_lt most_locators (length s.etrs)
 
--- A10: a group of the same name stands in an earlier row
+-- A10: a group of the same name is in an earlier row
 abbrev pub is_duplicate_group : Register → Group → Bool
 is_duplicate_group r g = is_duplicate (λ h. h.name) (λ h. h.row) r.groups g
 

@@ -7,8 +7,8 @@ use Rattle.ddt_register.specs.declared.register.Register.{Register}
 use Rattle.ddt_check.specs.declared.fault.Rule.{Rule}
 use Rattle.ddt_check.specs.declared.fault.Rule.TheVariants as rules
 use Rattle.ddt_check.specs.declared.ten_rules.Found.{Found}
-use Rattle.ddt_check.specs.declared.frames.ZoneRows.{ZoneRows}
-use Rattle.ddt_check.specs.declared.frames.GroupRows.{GroupRows}
+use Rattle.ddt_check.specs.declared.sorted_on_stack.ZoneRows.{ZoneRows}
+use Rattle.ddt_check.specs.declared.sorted_on_stack.GroupRows.{GroupRows}
 use Rattle.ddt_check.specs.Rules.{IsLeastRow, broken, rule_number}
 
 -- a rule is broken at no row

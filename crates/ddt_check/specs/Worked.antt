@@ -92,7 +92,7 @@ inner_root_zone = record { prefix = block 0x0a010000 16; kind = Node; group = ro
 abbrev pub campus_zones : List Zone
 campus_zones = root_zone 4 ∷ ten_zone 5 ∷ east_zone ∷ []
 
--- The zones of the campus and one more behind them; each example puts that one in row 9.
+-- The zones of the campus and one more after them; each example puts that one in row 9.
 abbrev pub with_zone : Zone → List Zone
 with_zone z = root_zone 4 ∷ ten_zone 5 ∷ east_zone ∷ z ∷ []
 
@@ -104,7 +104,7 @@ zone_nine address len = record { prefix = block address len; kind = Node; group 
 abbrev pub campus_sites : List Site
 campus_sites = registered_site ∷ silent_site ∷ []
 
--- The sites of the campus and one more behind them; each example puts that one in row 9.
+-- The sites of the campus and one more after them; each example puts that one in row 9.
 abbrev pub with_site : Site → List Site
 with_site s = registered_site ∷ silent_site ∷ s ∷ []
 
@@ -116,7 +116,7 @@ site_nine address len etrs = record { prefix = block address len; etrs = etrs; r
 abbrev pub campus_groups : List Group
 campus_groups = root_group ∷ ten_group ∷ east_group ∷ []
 
--- The groups of the campus and one more behind them; each example puts that one in row 9.
+-- The groups of the campus and one more after them; each example puts that one in row 9.
 abbrev pub with_group : Group → List Group
 with_group g = root_group ∷ ten_group ∷ east_group ∷ g ∷ []
 
@@ -402,7 +402,7 @@ all_rules =
 abbrev pub rows_to_eight : List ℕ
 rows_to_eight = 0 ∷ 1 ∷ 2 ∷ 3 ∷ 4 ∷ 5 ∷ 6 ∷ 7 ∷ 8 ∷ []
 
--- the rule that each breaks, in row 9, or in row 0 where nothing stands; the campus breaks none in any of its rows
+-- the rule that each breaks, in row 9, or in row 0, which has no item; the campus breaks none in any of its rows
 pub record BreaksInNine : Type 0 where
   pub no_root : broken nothing rules.NoRoot 0 ≡ true
   pub two_roots : broken second_root rules.NoRoot 9 ≡ true

@@ -2,7 +2,7 @@
 
 use thiserror::Error;
 
-/// The rules that an accepted register keeps, in the order in which a fault is named.
+/// The rules that an accepted register keeps. Of several broken rules the first is reported.
 #[derive(Clone, Copy, Debug, PartialEq, Eq, PartialOrd, Ord, Error)]
 pub enum Rule {
     /// Exactly one zone covers everything, and DDT nodes serve it (RFC 8111, section 4: the root).
@@ -20,13 +20,13 @@ pub enum Rule {
     /// A zone is of its group's kind.
     #[error("A5 Role")]
     Role,
-    /// A group has 1 to 8 locators, and no locator stands twice, in it or in two groups.
+    /// A group has 1 to 8 locators, and no locator occurs twice, in it or in two groups.
     #[error("A6 Locators")]
     Locators,
-    /// Nothing is delegated below a zone of Map-Servers.
+    /// No zone is strictly below a zone of Map-Servers.
     #[error("A7 BelowMapServer")]
     BelowMapServer,
-    /// A site stands in a zone of Map-Servers.
+    /// The longest zone that covers a site is one of Map-Servers.
     #[error("A8 SiteOutside")]
     SiteOutside,
     /// A site has at most 8 ETRs.
@@ -35,6 +35,22 @@ pub enum Rule {
     /// No two groups have one name.
     #[error("A10 DuplicateGroup")]
     DuplicateGroup,
+}
+
+impl Rule {
+    /// All rules, in the order of their numbers.
+    pub const ALL: [Rule; 10] = [
+        Rule::NoRoot,
+        Rule::DuplicateZone,
+        Rule::DuplicateSite,
+        Rule::UnknownGroup,
+        Rule::Role,
+        Rule::Locators,
+        Rule::BelowMapServer,
+        Rule::SiteOutside,
+        Rule::TooManyEtrs,
+        Rule::DuplicateGroup,
+    ];
 }
 
 /// A broken rule, and the row that breaks it: row 0 where no row is at fault.

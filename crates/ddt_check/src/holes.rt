@@ -1,5 +1,5 @@
 //! The least specific free prefix, by trial of each length: the prefix of a delegation hole (RFC 8111, section 7.1.2),
-//! and of the part of a site that is said not to be registered (section 7.2).
+//! and of the part of a site that a server answers is not registered (section 7.2).
 
 ghost use Rattle.std.specs.Prelude.{◌≡◌, ◌&&◌};
 ghost use Rattle.std.specs.List.{list_any};

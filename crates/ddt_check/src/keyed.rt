@@ -6,16 +6,16 @@ ghost use Rattle.std.specs.Ordering.{nat_cmp, is_lt};
 ghost use Rattle.ddt_check.specs.Fronts.{prefix_front as prefix_front_of, name_front as name_front_of};
 ghost use Rattle.ddt_check.specs.laws.Fronts.{zones_by_front, sites_by_front, groups_by_front};
 
-use crate::fronts::{name_front, prefix_front};
+use crate::sort_key_fronts::{name_front, prefix_front};
 use ddt_register::{Group, Item, Site, Zone};
 use std::cmp::Ordering;
 
-/// An item with a key that no two of a list may share: zones and sites go by their prefixes, groups by their names.
+/// An item with a key that no two items of a list may share: the prefix of a zone or a site, or the name of a group.
 pub trait Keyed: Item {
     /// The digits of its prefix, or the bytes of its name.
     ghost key: { Self → List ℕ };
 
-    /// A number of 64 binary digits: of two items, the one with the lower number has the lower key.
+    /// The first 64 bits of its sort key: of two items, the one with the lower number has the lower key.
     ghost front_of: { Self → ℕ };
 
     /// Whether another item has the same key.
@@ -26,7 +26,7 @@ pub trait Keyed: Item {
     fn cmp_key(&self, other: &Self) -> Ordering
         ensures { result ≡ slice_cmp nat_cmp (key self.now) (key other.now) };
 
-    /// The number that settles most comparisons.
+    /// The first 64 bits of its sort key, which decide most comparisons.
     fn front(&self) -> u64
         ensures { result ≡ front_of self.now };
 

@@ -20,8 +20,8 @@ pub fn each_zone_has_servers()
     ensures first { (r : Register) → IsAccepted r → EachGroupHasAFirstLocator r }
 {}
 
-/// What an honest server says of an identifier that one of its zones covers: a referral strictly downwards, to a zone
-/// that covers the identifier, or the record of the assignment (RFC 8111, sections 6.1, 7.1 and 7.2).
+/// What an honest server answers for an identifier that one of its zones covers: a referral strictly downwards, to a
+/// zone that covers the identifier, or the record of the assignment (RFC 8111, sections 6.1, 7.1 and 7.2).
 pub fn honest_servers_lead_to_the_assignment()
     ensures downwards { (r : Register) → IsAccepted r → ServersReferDownwards r }
     ensures to_zones { (r : Register) → IsAccepted r → ReferralsAreToZones r }
@@ -32,8 +32,9 @@ pub fn honest_servers_lead_to_the_assignment()
     ensures agree { (r : Register) → IsAccepted r → ServersOfAGroupAgree r }
 {}
 
-/// What the assignment of one identifier says of others: a registered prefix is a site, and says nothing of them. The
-/// prefix of a hole, or of a part of a site that isn't registered, is assigned the same for each that it covers.
+/// What the assignment of one identifier implies for others. A registered prefix is a site, and implies nothing for
+/// them. Each identifier that the prefix of a hole, or of a part of a site that isn't registered, covers is assigned
+/// the same.
 pub fn negatives_hold_of_all_that_they_cover()
     ensures registered { (r : Register) → IsAccepted r → RegisteredPrefixesAreSites r }
     ensures negative { (r : Register) → IsAccepted r → NegativesHoldOfAll r }

@@ -1,8 +1,8 @@
-//! The check of a register, and what an accepted one says: which Map-Servers or which hole it assigns to an
-//! identifier, and what an honest server answers.
+//! The check of a register; and for an accepted register, which Map-Servers or which hole it assigns to an identifier,
+//! and what an honest server answers.
 //!
-//! In reading order: `fault`, `accepted`, `ten_rules` (with `frames`, `entries`, `keyed`, `fronts` and `rules` below it),
-//! `assignment` (with `lookup` and `holes` below it), `honest_answer`, `laws`.
+//! In reading order: `fault`, `accepted`, `ten_rules` (with `sorted_on_stack`, `entries`, `keyed`, `sort_key_fronts`
+//! and `rules` below it), `assignment` (with `lookup` and `holes` below it), `honest_answer`, `laws`.
 //! Tests: ddt_register_tests/check.
 #![tactic(auto)]
 
@@ -10,14 +10,14 @@ mod accepted;
 mod assignment;
 mod entries;
 mod fault;
-mod frames;
-mod fronts;
 mod holes;
 mod honest_answer;
 mod keyed;
 mod laws;
 mod lookup;
 mod rules;
+mod sort_key_fronts;
+mod sorted_on_stack;
 mod ten_rules;
 
 pub use accepted::{Accepted, Counts};

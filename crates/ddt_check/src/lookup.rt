@@ -1,4 +1,4 @@
-//! What is looked up in a register, over its lists.
+//! Look-ups in the lists of a register: the zone and the site of a prefix, the zones of a server, the group of a name.
 
 ghost use Rattle.std.specs.Prelude.{◌≡◌};
 ghost use Rattle.std.specs.Option.{option_copied};

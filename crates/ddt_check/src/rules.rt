@@ -1,5 +1,5 @@
-//! The ten rules, each as the least row that breaks it, over sorted entries: by prefix or name, then by row. An item's
-//! duplicates then stand beside it, and a name, a locator or a zone is found by halving.
+//! The ten rules, each as the least row that breaks it, over entries that are sorted by prefix or name, then by row.
+//! The duplicates of an item are then beside it, and a name, a locator or a zone is found by binary search.
 
 ghost use Rattle.std.specs.Prelude.{◌≡◌, Bool, List, min, Some, IsPermutation, if◌then◌else◌};
 ghost use Rattle.std.specs.Option.{option_map_or};
@@ -9,6 +9,7 @@ ghost use Rattle.ddt_check.specs.Rules.{IsLeastRow, item_at};
 use ddt_register::Item;
 
 pub mod duplicates;
+pub mod fingerprints;
 pub mod locators;
 pub mod sites;
 pub mod zones;
@@ -33,7 +34,7 @@ fn lower_of(a: Option<u32>, b: Option<u32>) -> Option<u32>
     }
 }
 
-/// The lower of a row and another where that one is to count, else the first.
+/// The lower of both rows if `counts`, else the first one.
 fn lower_if(least: Option<u32>, counts: bool, row: u32) -> Option<u32>
     ensures { result ≡ (if counts then Some (option_map_or (λ l. min l row) least row) else least) }
 {

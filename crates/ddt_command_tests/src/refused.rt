@@ -6,6 +6,7 @@
 use crate::comparison::same;
 use crate::words::{Reader, process, read_by};
 use ddt_check::{Accepted, check};
+use ddt_commands::command_line::{Words, WordsFault};
 use ddt_commands::{answer_group, answer_hex};
 use ddt_ecm::read_request;
 use ddt_examples::bytes_of;
@@ -20,7 +21,6 @@ use ddt_path::{Locator, LocatorSet, Name, Outcome, Xeid};
 use ddt_register::read_register;
 use ddt_text::{parse_prefix, parse_xeid};
 use ddt_wire::{read_negative_reply, read_referral};
-use ddt_words::{Words, WordsFault};
 use std::alloc::{AllocError, Global};
 use std::process::Abort;
 use std::test::Fail;
@@ -114,7 +114,7 @@ fn made(alloc: Global, words: &[&str]) -> Result<Vec<String>, AllocError> {
     }
 }
 
-/// The call, read once more where memory is refused, of which it tells no other fault.
+/// The call, read once more where memory is refused. It has no other fault.
 fn call<'a>(
     rt: &impl Abort,
     alloc: Global,
@@ -130,7 +130,7 @@ fn call<'a>(
     }
 }
 
-/// Words that call a command: what is asked of the call, with all values behind it.
+/// Words that call a command, and the values of the call.
 struct Wanted {
     reader: Reader,
     words: &'static [&'static str],
@@ -312,9 +312,9 @@ fn words_are_read_whole(rt: HostRuntime) -> Result<(), Fail> {
 
 // ---- lines
 
-/// What a line tells.
+/// What a line is of.
 #[derive(Clone, Copy, Debug)]
-enum Tells {
+enum LineOf {
     /// An outcome, by its word.
     Outcome(&'static str),
     /// A Map-Referral, a hop to 127.0.0.1 with one, a negative Map-Reply or a request, with these bytes.
@@ -339,36 +339,36 @@ fn outcome(word: &str) -> Result<Outcome, Fail> {
     })
 }
 
-/// The line of a message with these bytes, or of what else is told.
-fn line(alloc: Global, tells: &Tells, bytes: &[u8]) -> Result<Result<Vec<u8>, AllocError>, Fail> {
-    Ok(match tells {
-        Tells::Outcome(word) => outcome_line(alloc, &outcome(word)?),
-        Tells::Referral => referral_line(alloc, &read_referral(bytes)?),
-        Tells::Hop => hop_line(alloc, ROOT, &read_referral(bytes)?),
-        Tells::Reply => negative_reply_line(alloc, read_negative_reply(bytes)?),
-        Tells::Request => request_line(alloc, &read_request(bytes)?),
-        Tells::Counts(zones, sites, groups) => accepted_line(alloc, *zones, *sites, *groups),
+/// The line of a message with these bytes, or of another value.
+fn line(alloc: Global, of: &LineOf, bytes: &[u8]) -> Result<Result<Vec<u8>, AllocError>, Fail> {
+    Ok(match of {
+        LineOf::Outcome(word) => outcome_line(alloc, &outcome(word)?),
+        LineOf::Referral => referral_line(alloc, &read_referral(bytes)?),
+        LineOf::Hop => hop_line(alloc, ROOT, &read_referral(bytes)?),
+        LineOf::Reply => negative_reply_line(alloc, read_negative_reply(bytes)?),
+        LineOf::Request => request_line(alloc, &read_request(bytes)?),
+        LineOf::Counts(zones, sites, groups) => accepted_line(alloc, *zones, *sites, *groups),
     })
 }
 
 /// The same, made once more where memory is refused.
-fn whole_line(alloc: Global, tells: &Tells, bytes: &[u8]) -> Result<Vec<u8>, Fail> {
-    match line(alloc, tells, bytes)? {
+fn whole_line(alloc: Global, of: &LineOf, bytes: &[u8]) -> Result<Vec<u8>, Fail> {
+    match line(alloc, of, bytes)? {
         Ok(line) => Ok(line),
-        Err(_refused) => Ok(line(alloc, tells, bytes)??),
+        Err(_refused) => Ok(line(alloc, of, bytes)??),
     }
 }
 
-/// What is told has this line, without its line feed.
+/// The line is this one, without its line feed.
 fn has_line(
     rt: &impl Abort,
     alloc: Global,
-    tells: &Tells,
+    of: &LineOf,
     fields: &str,
     wanted: &str,
 ) -> Result<(), Fail> {
     let bytes = message(alloc, fields)?;
-    let line = whole_line(alloc, tells, &bytes)?;
+    let line = whole_line(alloc, of, &bytes)?;
     same(
         rt,
         &line.strip_suffix(b"\n"),
@@ -379,45 +379,45 @@ fn has_line(
 }
 
 /// Messages, and their lines.
-const LINES: &[(Tells, &str, &str)] = &[
+const LINES: &[(LineOf, &str, &str)] = &[
     (
-        Tells::Referral,
+        LineOf::Referral,
         EAST_ACKNOWLEDGES,
         "referral nonce 0000000000000001 MS-ACK [0]10.1.2.0/24 ttl 1440 complete 127.0.1.1 127.0.1.2",
     ),
     (
-        Tells::Referral,
+        LineOf::Referral,
         TEN_IS_NOT_IN_CHARGE,
         "referral nonce 0000000000000001 NOT-AUTHORITATIVE [0]11.0.0.1/32 ttl 0 incomplete",
     ),
     (
-        Tells::Hop,
+        LineOf::Hop,
         EAST_ACKNOWLEDGES,
         "127.0.0.1 MS-ACK [0]10.1.2.0/24 1440 127.0.1.1 127.0.1.2",
     ),
     (
-        Tells::Reply,
+        LineOf::Reply,
         NEGATIVE_REPLY,
         "negative nonce 1122334455667788 [0]10.2.0.0/15 ttl 15",
     ),
     (
-        Tells::Request,
+        LineOf::Request,
         DDT_REQUEST,
         "request nonce 0000000000000001 ddt [0]10.1.2.3 port 4342 itr 127.0.0.53",
     ),
-    (Tells::Outcome("hole"), "", "hole [0]10.1.2.0/24"),
+    (LineOf::Outcome("hole"), "", "hole [0]10.1.2.0/24"),
     (
-        Tells::Outcome("registered"),
+        LineOf::Outcome("registered"),
         "",
         "registered [0]10.1.2.0/24 127.0.0.1 ::35",
     ),
     (
-        Tells::Outcome("not-registered"),
+        LineOf::Outcome("not-registered"),
         "",
         "not-registered [0]10.1.2.0/24 127.0.0.1 ::35",
     ),
     (
-        Tells::Counts(3, 20, 100),
+        LineOf::Counts(3, 20, 100),
         "",
         "accepted 3 zones 20 sites 100 groups",
     ),
@@ -425,8 +425,8 @@ const LINES: &[(Tells, &str, &str)] = &[
 
 #[test]
 fn lines_are_written_whole(rt: HostRuntime) -> Result<(), Fail> {
-    for (tells, fields, wanted) in LINES {
-        has_line(&rt, rt.alloc(), tells, fields, wanted)?;
+    for (of, fields, wanted) in LINES {
+        has_line(&rt, rt.alloc(), of, fields, wanted)?;
     }
     Ok(())
 }

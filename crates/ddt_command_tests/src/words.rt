@@ -1,9 +1,9 @@
-//! The words that `ddt_words`, with two commands of its own, and `read_words` of `ddt_commands` refuse. What a call has of
+//! The words that `command_line`, with two commands of its own, and `read_words` of `ddt_commands` refuse. What a call has of
 //! its words is in `refused`.
 
 use crate::comparison::same;
+use ddt_commands::command_line::{Argument, Declaration, Words, WordsFault, read_call};
 use ddt_commands::read_words;
-use ddt_words::{Argument, Declaration, Words, WordsFault, read_call};
 use std::alloc::{AllocError, Global};
 use std::process::Abort;
 use std::test::Fail;

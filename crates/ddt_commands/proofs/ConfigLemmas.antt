@@ -10,7 +10,7 @@ use Rattle.ddt_config.specs.Table.{outline}
 use Rattle.ddt_compile.specs.GroupConfig.{config_named}
 use Rattle.ddt_compile.specs.laws.Statements.{IsHonestConfig, HasRoom}
 use Rattle.ddt_compile.specs.laws.Named.{config_of, no_config}
-use Rattle.ddt_commands.specs.Answer.{IsConfigOfGroup}
+use Rattle.ddt_commands.specs.Commands.Answer.{IsConfigOfGroup}
 
 -- what is found for a name is its group's configuration
 pub chosen : (r : Register) (name : List ℕ) (found : Option ServerConfig) → option_map outline found ≡ config_named r name

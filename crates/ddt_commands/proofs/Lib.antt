@@ -8,4 +8,5 @@ pub mod RunLemmas
 pub mod ScriptLemmas
 pub mod ServeLemmas
 pub mod SocketLemmas
-pub mod PrintedLemmas
+pub mod EndLemmas
+pub mod CommandLineLemmas

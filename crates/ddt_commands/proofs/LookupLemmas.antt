@@ -21,9 +21,9 @@ use Rattle.ddt_wire.specs.laws.Statements.{MessagesAreRead}
 use Rattle.ddt_wire.specs.Referral.{Message, message_in, message_of}
 use Rattle.ddt_resolver.specs.declared.results.Why.{Why}
 use Rattle.ddt_resolver.specs.State.{State, fresh}
-use Rattle.ddt_sim.specs.declared.hop.Hop.{Hop}
-use Rattle.ddt_sim.specs.declared.hop.LookupError.{LookupError}
-use Rattle.ddt_sim.specs.declared.hop.LookupError.TheVariants.{GaveUp, TooMany, Memory}
+use Rattle.ddt_sim.specs.declared.lookup_result.Hop.{Hop}
+use Rattle.ddt_sim.specs.declared.lookup_result.LookupError.{LookupError}
+use Rattle.ddt_sim.specs.declared.lookup_result.LookupError.TheVariants.{GaveUp, TooMany, Memory}
 use Rattle.ddt_sim.specs.Headline.{IsHonestHop, IsRightError}
 use Rattle.ddt_sim.specs.Lookup.{Fails, HasOutcome}
 use Rattle.ddt_sim.specs.Schedules.{StartsSound}
@@ -31,10 +31,10 @@ use Rattle.ddt_sim.specs.Sound.{IsSound, NewResolversAreSound}
 use Rattle.ddt_lines.specs.Lines.{ended, hop_text, outcome_text}
 use Rattle.ddt_commands.proofs.Texts.{texts}
 use Rattle.ddt_commands.specs.declared.lines.Lines.{Lines}
-use Rattle.ddt_words.specs.Call.{Call}
-use Rattle.ddt_commands.specs.declared.refusal.word.WordRefusal.{WordRefusal}
-use Rattle.ddt_commands.specs.Assign.{identifier_refusal}
-use Rattle.ddt_commands.specs.Lookup.{AreAllTold, AreTold, CallsForLookups, IsLookupText, none, more, IsLookupTold, outcome, gave_up, refused, bad_identifier, end_text, read_line, replied_line, said_line, why_text}
+use Rattle.ddt_commands.specs.CommandLine.Call.{Call}
+use Rattle.ddt_commands.specs.declared.refusal.bad_word.WordRefusal.{WordRefusal}
+use Rattle.ddt_commands.specs.Commands.Assign.{identifier_refusal}
+use Rattle.ddt_commands.specs.Commands.Lookup.{AreAllTold, AreTold, CallsForLookups, IsLookupText, none, more, IsLookupTold, outcome, gave_up, refused, bad_identifier, end_text, read_line, replied_line, said_line, why_text}
 
 -- ---- the lines of one lookup
 

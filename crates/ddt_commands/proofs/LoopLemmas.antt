@@ -9,19 +9,19 @@ use Rattle.ddt_path.specs.Locators.{lists}
 use Rattle.ddt_register.specs.declared.register.Register.{Register}
 use Rattle.ddt_check.specs.Zones.{roots}
 use Rattle.ddt_config.specs.Table.{Outline}
-use Rattle.ddt_wires.specs.declared.call.Call.{Call as WireCall}
-use Rattle.ddt_wires.specs.Calls.{RecordsCalls}
+use Rattle.ddt_sockets.specs.declared.wire_calls.Call.{Call as WireCall}
+use Rattle.ddt_sockets.specs.Calls.{RecordsCalls}
 use Rattle.ddt_resolver.specs.State.{State, fresh}
 use Rattle.ddt_sim.specs.Compiled.{AreCompiled}
 use Rattle.ddt_sim.specs.Sound.{NewResolversAreSound}
-use Rattle.ddt_loop.specs.declared.ends.LoopEnd.{LoopEnd}
-use Rattle.ddt_loop.specs.Askers.{has_unresolved}
+use Rattle.ddt_loop.specs.declared.lookup_end.LoopEnd.{LoopEnd}
+use Rattle.ddt_loop.specs.Requesters.{has_unresolved}
 use Rattle.ddt_loop.specs.Right.{IsRightLoopEnd, RepliesAreOwed, WhenFair, WhenTold, is_poll}
 use Rattle.ddt_loop.specs.Turns.{IsLoop}
 use Rattle.ddt_commands.specs.declared.commands.loops.task.Task.{Task}
-use Rattle.ddt_words.specs.Call.{Call}
-use Rattle.ddt_commands.specs.Lookup.{bad_identifier, me_of, seed_of, xeid_words}
-use Rattle.ddt_commands.specs.Loop.{IsRun, bad_loop, end_line, end_lines, server_locators, turns_of}
+use Rattle.ddt_commands.specs.CommandLine.Call.{Call}
+use Rattle.ddt_commands.specs.Commands.Lookup.{bad_identifier, me_of, seed_of, xeid_words}
+use Rattle.ddt_commands.specs.Commands.Loop.{IsRun, bad_loop, end_line, end_lines, server_locators, turns_of}
 use Rattle.ddt_commands.proofs.LookupLemmas.{starts_sound}
 
 -- ---- the words

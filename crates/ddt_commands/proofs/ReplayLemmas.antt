@@ -24,14 +24,14 @@ use Rattle.ddt_sim.specs.InForce.{AreRegisters, AnswersAreSince, AnswersAreOfLat
 use Rattle.ddt_sim.specs.Tries.{NoRepliesAreRight}
 use Rattle.ddt_sim.specs.Sound.{NewResolversAreSound}
 use Rattle.ddt_lines.specs.Lines.{ended}
-use Rattle.ddt_words.specs.Call.{Call}
+use Rattle.ddt_commands.specs.CommandLine.Call.{Call}
 use Rattle.ddt_commands.specs.declared.refusal.Refusal.{Refusal}
-use Rattle.ddt_commands.specs.Lookup.{me_of, seed_of}
+use Rattle.ddt_commands.specs.Commands.Lookup.{me_of, seed_of}
 use Rattle.ddt_commands.specs.Register.{HasBytes, Spell}
-use Rattle.ddt_commands.specs.Script.{SpellsScript}
+use Rattle.ddt_commands.specs.Commands.Script.{SpellsScript}
 use Rattle.ddt_commands.specs.declared.refusal.Refusal.TheVariants.{OutOfMemory}
 use Rattle.ddt_commands.proofs.OverLemmas.{of_register}
-use Rattle.ddt_commands.specs.Replay.{AreRegistersAt, IsRegisterAt, IsReplayOf, IsRunText, IsWhyNoMore, IsWhyNoScript, IsWhyNotReplayed, bad_replay, datagrams_at, event_text, lines_from, numbered, requests, run_text, servers_of}
+use Rattle.ddt_commands.specs.Commands.Replay.{AreRegistersAt, IsRegisterAt, IsReplayOf, IsRunText, IsWhyNoMore, IsWhyNoScript, IsWhyNotReplayed, bad_replay, datagrams_at, event_text, lines_from, numbered, requests, run_text, servers_of}
 use Rattle.ddt_commands.proofs.LookupLemmas.{one_more, starts_sound}
 use Rattle.ddt_commands.proofs.Texts.{texts}
 

@@ -1,13 +1,16 @@
 -- From what one command prints to what the words of a process print.
 use Rattle.std.proofs.Common.{◌≡◌, ◌≢◌, inl, inr, ℕ, true, List, [], Option, Some, ap, sym, subst, refl, ◌∙◌}
 use Rattle.clap.specs.Words.{App, fault_of, is_simple_and_free, subcommand_of}
-use Rattle.ddt_words.specs.declared.declaration.Declaration.{Declaration}
-use Rattle.ddt_words.specs.Call.{Call, CallsCommand}
-use Rattle.ddt_words.specs.Line.{line}
+use Rattle.ddt_commands.specs.declared.command_line.declaration.Declaration.{Declaration}
+use Rattle.ddt_commands.specs.CommandLine.Call.{Call, CallsCommand}
+use Rattle.ddt_commands.specs.CommandLine.Line.{line}
 use Rattle.ddt_commands.specs.declared.commands.Command.{Command}
-use Rattle.ddt_commands.specs.Commands.{IsTextOf, IsWhyOf, command_list, name_of, program_line}
-use Rattle.ddt_commands.specs.Running.{CallNone, CallsFor, DontCall, HasPartOf, IsAnswer, IsWhyRefused}
+use Rattle.ddt_commands.specs.Commands.{command_list, name_of, prints_of, program_line}
+use Rattle.ddt_commands.specs.declared.status.Status.{Status}
+use Rattle.ddt_commands.specs.Ends.{Ends, Streams}
+use Rattle.ddt_commands.specs.Program.{CallNone, CallsFor, DontCall, program_prints}
 use Rattle.ddt_commands.specs.Wires.{OverWires}
+use Rattle.ddt_commands.proofs.EndLemmas.{weaker}
 
 -- clap's exact rule holds of the program's command line
 program_is_simple : is_simple_and_free program_line ≡ true
@@ -27,11 +30,13 @@ calls_for words command call calls named = (calls, sym named)
 pub bad_words : (ds : List Declaration) (words : List (List ℕ)) → line ds ≡ program_line → fault_of (line ds) words ≢ [] → CallNone words
 bad_words ds words e bad = λ command call calls. bad (ap (λ (a : App). fault_of a words) e ∙ calls.0.0)
 
-pub unprinted : {F : Type 0} (opens : List ℕ → Option F → Type 0) (remaining : F → Option (List ℕ)) (over : OverWires) (words : List (List ℕ)) (command : Command) (call : Call)
-    (out out_new err err_new : Option (List ℕ)) → CallsFor words command call → HasPartOf (IsTextOf opens remaining over command call) (IsWhyOf opens remaining over command call) out out_new err err_new
-    → HasPartOf (IsAnswer opens remaining over words) (IsWhyRefused opens remaining over words) out out_new err err_new
-unprinted opens remaining over words command call out out_new err err_new calls (inl h) = inl (h.0, (h.1.0, (command, (call, calls, h.1.1)), h.1.2))
-unprinted opens remaining over words command call out out_new err err_new calls (inr h) = inr (h.0, inr (command, (call, calls, h.1)), h.2)
+-- an end of the command that the words call is one of the program
+pub command_ends : {F : Type 0} (opens : List ℕ → Option F → Type 0) (remaining : F → Option (List ℕ)) (over : OverWires) (words : List (List ℕ)) (command : Command) (call : Call)
+    (status : Status) (on : Streams) → CallsFor words command call → Ends status on (prints_of opens remaining over command call)
+    → Ends status on (program_prints opens remaining over words)
+command_ends opens remaining over words command call status on calls e =
+    weaker (prints_of opens remaining over command call) (program_prints opens remaining over words) status on
+    (λ complete text h. (command, (call, calls, h))) (λ why h. inr (command, (call, calls, h))) e
 
 -- words that don't call this command call another
 pub another : (words : List (List ℕ)) (command this : Command) (call : Call) → CallsFor words command call → DontCall this words → command ≢ this

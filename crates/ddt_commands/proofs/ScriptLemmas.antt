@@ -17,7 +17,7 @@ use Rattle.ddt_sim.specs.declared.schedule.Step.TheVariants.{Ask, Deliver, Pass,
 use Rattle.ddt_commands.proofs.Texts.{texts}
 use Rattle.ddt_commands.specs.declared.commands.replay.script.ScriptFault.{ScriptFault}
 use Rattle.ddt_commands.specs.declared.commands.replay.script.ScriptFault.TheVariants.{Line}
-use Rattle.ddt_commands.specs.Script.{IsRefusedAt, ScriptsAreClear, SpellSteps, SpellsStep, lines_in}
+use Rattle.ddt_commands.specs.Commands.Script.{IsRefusedAt, ScriptsAreClear, SpellSteps, SpellsStep, lines_in}
 
 -- ---- one line
 
@@ -84,8 +84,8 @@ not_number text s of_number none (k, made, is, fits) =
     cc
 
 -- a number behind a word
-pub number_behind : (line text word : List ℕ) (k : ℕ) → line ≡ word ++ text → Some k ≡ number_in 4294967295 text → (line ≡ word ++ decimal k) × (k < 2 ^ 32)
-number_behind line text word k is some =
+pub number_after_word : (line text word : List ℕ) (k : ℕ) → line ≡ word ++ text → Some k ≡ number_in 4294967295 text → (line ≡ word ++ decimal k) × (k < 2 ^ 32)
+number_after_word line text word k is some =
     let h = number_in-sound 4294967295 text k (omega arith) (sym some) in
     (is ∙ ap (λ (t : List ℕ). word ++ t) h.1, omega (arith, h.0))
 

@@ -3,7 +3,7 @@ use Rattle.std.proofs.Common.{◌≢◌, ℕ, List}
 use Rattle.ddt_config.specs.declared.fault.ConfigFault.{ConfigFault}
 use Rattle.ddt_config.specs.declared.fault.ConfigFault.TheVariants.{Toml, Field, Value, Shape, Memory}
 use Rattle.ddt_node.specs.Spelled.{IsConfigFault}
-use Rattle.ddt_commands.specs.Serve.{IsBadConfig, config_refusal}
+use Rattle.ddt_commands.specs.Commands.Serve.{IsBadConfig, config_refusal}
 
 -- a fault of the bytes, unless memory ran out
 pub bad_config : (bytes : List ℕ) (fault : ConfigFault) → (fault ≢ Memory → IsConfigFault bytes fault) → IsBadConfig bytes (config_refusal fault)

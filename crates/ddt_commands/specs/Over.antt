@@ -2,10 +2,11 @@
 use Rattle.std.specs.Prelude.{ℕ, Bool, true, ◌≡◌, ◌≢◌, ◌⊎◌, List, codes, Option, None, Some}
 use Rattle.ddt_register.specs.declared.register.Register.{Register}
 use Rattle.ddt_check.specs.Rules.{IsAccepted}
-use Rattle.ddt_words.specs.Call.{Call, value}
+use Rattle.ddt_commands.specs.CommandLine.Call.{Call, value}
 use Rattle.ddt_commands.specs.declared.refusal.Refusal.{Refusal}
 use Rattle.ddt_commands.specs.declared.refusal.Refusal.TheVariants.{BadWord}
-use Rattle.ddt_commands.specs.declared.refusal.word.WordRefusal.{WordRefusal}
+use Rattle.ddt_commands.specs.declared.refusal.bad_word.WordRefusal.{WordRefusal}
+use Rattle.ddt_commands.specs.Ends.{Prints, prints}
 use Rattle.ddt_commands.specs.Register.{IsWhyNoRegister, Spell, HasBytes}
 
 -- the path of the register of a call
@@ -40,3 +41,11 @@ IsWhyOver opens remaining bad refuses call why =
     ((w : WordRefusal) × (bad call ≡ Some w) × (why ≡ BadWord w))
     ⊎ OpensTo opens (bad call) call (λ source. IsWhyNoRegister remaining source (path call) why
     ⊎ OfItsRegister remaining source (λ r. refuses call r why))
+
+-- what such a command prints of a call
+abbrev pub prints_over : {F : Type 0} → (List ℕ → Option F → Type 0) → (F → Option (List ℕ))
+    → (Call → Option WordRefusal) → (Bool → Call → Register → List ℕ → Type 0)
+    → (Call → Register → Refusal → Type 0) → Call → Prints
+prints_over opens remaining bad answers refuses call =
+    prints (λ complete text. IsTextOver opens remaining bad (answers complete) call text)
+    (λ why. IsWhyOver opens remaining bad refuses call why)

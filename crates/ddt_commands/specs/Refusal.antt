@@ -8,10 +8,10 @@ use Rattle.ddt_register.specs.declared.fault.ReadFault.{ReadFault}
 use Rattle.ddt_register.specs.declared.fault.ReadFault.TheVariants.{Memory, Read}
 use Rattle.ddt_commands.specs.declared.refusal.Refusal.{Refusal}
 use Rattle.ddt_commands.specs.declared.refusal.Refusal.TheVariants.{BadWord, NoRegister, NoScript, NoServer, NoMessage, OutOfMemory}
-use Rattle.ddt_commands.specs.declared.refusal.word.WordRefusal.{WordRefusal}
-use Rattle.ddt_commands.specs.declared.refusal.word.WordRefusal.TheVariants.{Identifier, Address, Number}
-use Rattle.ddt_commands.specs.declared.refusal.register.RegisterRefusal.{RegisterRefusal}
-use Rattle.ddt_commands.specs.declared.refusal.register.RegisterRefusal.TheVariants.{CannotOpen, Unreadable, CannotRead, BreaksRule, NoSuchGroup, OtherRoots}
+use Rattle.ddt_commands.specs.declared.refusal.bad_word.WordRefusal.{WordRefusal}
+use Rattle.ddt_commands.specs.declared.refusal.bad_word.WordRefusal.TheVariants.{Identifier, Address, Number}
+use Rattle.ddt_commands.specs.declared.refusal.register_file.RegisterRefusal.{RegisterRefusal}
+use Rattle.ddt_commands.specs.declared.refusal.register_file.RegisterRefusal.TheVariants.{CannotOpen, Unreadable, CannotRead, BreaksRule, NoSuchGroup, OtherRoots}
 use Rattle.ddt_commands.specs.declared.refusal.script.ScriptRefusal.{ScriptRefusal}
 use Rattle.ddt_commands.specs.declared.refusal.script.ScriptRefusal.TheVariants as script
 use Rattle.ddt_commands.specs.declared.refusal.server.ServerRefusal.{ServerRefusal}

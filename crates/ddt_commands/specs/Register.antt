@@ -8,8 +8,8 @@ use Rattle.ddt_check.specs.declared.fault.Fault.{Fault}
 use Rattle.ddt_check.specs.Rules.{IsLeastFault}
 use Rattle.ddt_commands.specs.declared.refusal.Refusal.{Refusal}
 use Rattle.ddt_commands.specs.declared.refusal.Refusal.TheVariants.{NoRegister, OutOfMemory}
-use Rattle.ddt_commands.specs.declared.refusal.register.RegisterRefusal.{RegisterRefusal}
-use Rattle.ddt_commands.specs.declared.refusal.register.RegisterRefusal.TheVariants.{CannotOpen, Unreadable, CannotRead, BreaksRule, NoSuchGroup, OtherRoots}
+use Rattle.ddt_commands.specs.declared.refusal.register_file.RegisterRefusal.{RegisterRefusal}
+use Rattle.ddt_commands.specs.declared.refusal.register_file.RegisterRefusal.TheVariants.{CannotOpen, Unreadable, CannotRead, BreaksRule, NoSuchGroup, OtherRoots}
 
 -- the register that the bytes of a file spell, or the first fault in them
 abbrev pub register_in : List ℕ → Result Lists ReadFault

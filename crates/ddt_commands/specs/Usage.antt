@@ -2,9 +2,9 @@
 use Rattle.std.specs.Prelude.{ℕ, ◌-◌, if◌then◌else◌, List, [], ◌∷◌, ◌++◌, codes, length, map, take}
 use Rattle.std.specs.List.{flat_map}
 use Rattle.std.specs.Str.{bytes_eq}
-use Rattle.ddt_words.specs.declared.declaration.Argument.{Argument}
-use Rattle.ddt_words.specs.declared.declaration.Argument.TheVariants.{One, Several, Any, Setting}
-use Rattle.ddt_words.specs.declared.declaration.Declaration.{Declaration}
+use Rattle.ddt_commands.specs.declared.command_line.declaration.Argument.{Argument}
+use Rattle.ddt_commands.specs.declared.command_line.declaration.Argument.TheVariants.{One, Several, Any, Setting}
+use Rattle.ddt_commands.specs.declared.command_line.declaration.Declaration.{Declaration}
 use Rattle.ddt_lines.specs.Lines.{ended}
 
 -- a name, which has small letters alone, in capital letters

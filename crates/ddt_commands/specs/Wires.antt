@@ -1,8 +1,8 @@
 -- What commands do over wires and a clock.
 use Rattle.std.specs.Prelude.{ℕ, ◌≡◌, List, Option}
-use Rattle.ddt_wires.specs.declared.call.Call.{Call as WireCall}
-use Rattle.ddt_commands.specs.Loop.{Looping, LoopsOver}
-use Rattle.ddt_commands.specs.Serve.{Serving, ServesOver}
+use Rattle.ddt_sockets.specs.declared.wire_calls.Call.{Call as WireCall}
+use Rattle.ddt_commands.specs.Commands.Loop.{Looping, LoopsOver}
+use Rattle.ddt_commands.specs.Commands.Serve.{Serving, ServesOver}
 use Rattle.ddt_commands.specs.Sockets.{Binding}
 
 -- Wires are left as they were, and a clock isn't read; or what comes of a server, or of the servers of a register and a

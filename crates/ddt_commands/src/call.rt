@@ -1,13 +1,13 @@
 //! The words of a process, read as the call of one of the program's commands.
 
 ghost use Rattle.std.specs.Prelude.{◌≡◌, Err, IfOk, map, string_bytes};
-ghost use Rattle.ddt_words.specs.Call.{CallsCommand, call_of};
-ghost use Rattle.ddt_words.specs.declared.fault.WordsFault.TheVariants.{Bad as IsBad};
+ghost use Rattle.ddt_commands.specs.CommandLine.Call.{CallsCommand, call_of};
+ghost use Rattle.ddt_commands.specs.declared.command_line.fault.WordsFault.TheVariants.{Bad as IsBad};
 ghost use Rattle.ddt_commands.specs.Commands.{command_list as commands};
-ghost use Rattle.ddt_commands.specs.Running.{CallNone};
+ghost use Rattle.ddt_commands.specs.Program.{CallNone};
 
+use crate::command_line::{Words, WordsFault, read_call};
 use crate::commands::command_list;
-use ddt_words::{Words, WordsFault, read_call};
 use std::alloc::Global;
 
 /// The command that the words call, of which the first is the program's name, and the values of its arguments and

@@ -12,25 +12,26 @@ pub mod show;
 
 ghost use Rattle.std.specs.Prelude.{◌≡◌, ◌≢◌, IfErr, IfOk, MatchOption};
 ghost use Rattle.std.specs.Fn.{FnReturnsAt as ReturnsAt};
-ghost use Rattle.ddt_words.specs.Call.{call_of};
-ghost use Rattle.ddt_words.specs.Line.{line};
+ghost use Rattle.ddt_commands.specs.CommandLine.Call.{call_of};
+ghost use Rattle.ddt_commands.specs.CommandLine.Line.{line};
 ghost use Rattle.ddt_commands.specs.declared.commands.Command.{Command as ACommand};
 ghost use Rattle.ddt_commands.specs.declared.commands.Command.TheVariants as CommandAs;
-ghost use Rattle.ddt_commands.specs.Commands.{IsTextOf, IsWhyOf, name_of, program_line};
+ghost use Rattle.ddt_commands.specs.Commands.{name_of, program_line, prints_of};
 ghost use Rattle.ddt_commands.specs.Sockets.{Binds};
 ghost use Rattle.ddt_commands.specs.Wires.{over_wires};
 
+use crate::command_line::{Declaration, Words};
+use crate::environment::Environment;
 use crate::lines::Lines;
+use crate::over_register::lines_over;
 use crate::refusal::Refusal;
-use crate::register::lines_over;
 use answer::Answer;
 use assign::Assign;
 use check::Check;
 use compile::Compile;
 use ddt_loop::Clock;
 use ddt_path::Locator;
-use ddt_wires::Wires;
-use ddt_words::{Declaration, Words};
+use ddt_sockets::Wires;
 use lookup::Lookup;
 use std::alloc::Global;
 use std::io;
@@ -52,6 +53,18 @@ pub fn command_list() -> &'static [Declaration<'static>]
         show::WORDS,
     ]
 }
+
+/// The usage, which words that fit no command are shown: a line for each of `command_list`.
+pub const USAGE: &str = "usage: ddt answer REGISTER GROUP XEID
+       ddt assign REGISTER XEID
+       ddt check REGISTER
+       ddt compile REGISTER GROUP
+       ddt loop REGISTER XEID... [--me ADDRESS] [--seed N] [--turns N]
+       ddt lookup REGISTER XEID... [--me ADDRESS] [--seed N]
+       ddt replay REGISTER SCRIPT [REGISTER...] [--me ADDRESS] [--seed N]
+       ddt serve CONFIG ADDRESS TURNS
+       ddt show HEX
+";
 
 /// A command.
 #[derive(Clone, Copy, Debug, PartialEq, Eq)]
@@ -87,16 +100,13 @@ impl Command {
     }
 }
 
-/// The lines that a command answers, or why it refuses. `open_file` gives a file, or None where it can't be opened;
-/// `bind` binds a socket of the wires to a locator. Only `serve` and `loop` use the wires, and `loop` alone the clock.
+/// The lines that a command answers, or why it refuses. Only `serve` and `loop` use the wires, and `loop` alone the
+/// clock.
 pub fn lines_of<'a, F, O, W, C, B>(
     alloc: Global,
     command: Command,
     words: &Words<'a>,
-    open_file: O,
-    wires: &mut W,
-    clock: &mut C,
-    bind: B,
+    environment: &mut Environment<O, W, C, B>,
 ) -> Result<Lines, Refusal<'a>>
 where
     F: Read + Drop,
@@ -104,26 +114,27 @@ where
     W: Wires,
     C: Clock,
     B: Fn(&mut W, Locator) -> io::Result<()> + Drop,
-    requires opens { O.IsAlwaysCallable open_file }
-    requires binds { B.IsAlwaysCallable bind }
-    ensures text { IfOk result (λ lines. IsTextOf (ReturnsAt O.Fn open_file) F.remaining
-        (over_wires (Binds B.Fn bind) W.calls C.readings wires.old wires.new clock.old clock.new)
-        command (call_of words.now) lines.complete lines.text.items) }
-    ensures refused { IfErr result (IsWhyOf (ReturnsAt O.Fn open_file) F.remaining
-        (over_wires (Binds B.Fn bind) W.calls C.readings wires.old wires.new clock.old clock.new)
-        command (call_of words.now)) }
-    ensures quiet { command ≢ CommandAs.Serve → command ≢ CommandAs.Loop → wires.new ≡ wires.old }
-    ensures still { command ≢ CommandAs.Loop → clock.new ≡ clock.old }
+    requires opens { O.IsAlwaysCallable environment.old.open_file }
+    requires binds { B.IsAlwaysCallable environment.old.bind }
+    ensures text { IfOk result (λ lines. (prints_of (ReturnsAt O.Fn environment.old.open_file) F.remaining
+        (over_wires (Binds B.Fn environment.old.bind) W.calls C.readings environment.old.wires environment.new.wires
+        environment.old.clock environment.new.clock) command (call_of words.now)).text lines.complete lines.text.items) }
+    ensures refused { IfErr result (prints_of (ReturnsAt O.Fn environment.old.open_file) F.remaining
+        (over_wires (Binds B.Fn environment.old.bind) W.calls C.readings environment.old.wires environment.new.wires
+        environment.old.clock environment.new.clock) command (call_of words.now)).refusal }
+    ensures quiet { command ≢ CommandAs.Serve → command ≢ CommandAs.Loop
+        → environment.new.wires ≡ environment.old.wires }
+    ensures still { command ≢ CommandAs.Loop → environment.new.clock ≡ environment.old.clock }
 {
     match command {
-        Command::Answer => lines_over::<Answer<'a>, F, O>(alloc, words, open_file),
-        Command::Assign => lines_over::<Assign, F, O>(alloc, words, open_file),
-        Command::Check => lines_over::<Check, F, O>(alloc, words, open_file),
-        Command::Compile => lines_over::<Compile<'a>, F, O>(alloc, words, open_file),
-        Command::Loop => loops::lines(alloc, words, open_file, wires, clock, bind),
-        Command::Lookup => lines_over::<Lookup, F, O>(alloc, words, open_file),
-        Command::Replay => replay::lines(alloc, words, open_file),
-        Command::Serve => serve::lines(alloc, words, open_file, wires, bind),
+        Command::Answer => lines_over::<Answer<'a>, F, O>(alloc, words, &environment.open_file),
+        Command::Assign => lines_over::<Assign, F, O>(alloc, words, &environment.open_file),
+        Command::Check => lines_over::<Check, F, O>(alloc, words, &environment.open_file),
+        Command::Compile => lines_over::<Compile<'a>, F, O>(alloc, words, &environment.open_file),
+        Command::Loop => loops::lines(alloc, words, environment),
+        Command::Lookup => lines_over::<Lookup, F, O>(alloc, words, &environment.open_file),
+        Command::Replay => replay::lines(alloc, words, &environment.open_file),
+        Command::Serve => serve::lines(alloc, words, environment),
         Command::Show => show::lines(alloc, words),
     }
 }

@@ -20,12 +20,12 @@ pub fn bytes_of<F: Read + Drop>(
     let mut bytes = Vec::new(alloc);
     match file.read_to_end(&mut bytes) {
         Ok(_count) => Ok(bytes),
-        Err(error) => Err(failed(error.kind(), unread)),
+        Err(error) => Err(refused_file(error.kind(), unread)),
     }
 }
 
 /// What is refused where reading ends in an error of this kind: out of memory if it is that, else `unread`.
-fn failed(kind: ErrorKind, unread: Refusal<'_>) -> Refusal<'_>
+fn refused_file(kind: ErrorKind, unread: Refusal<'_>) -> Refusal<'_>
     ensures { result ≡ file_refusal kind unread.entry }
 {
     match kind {

@@ -1,19 +1,24 @@
 //! The program's commands: from the words of a process to what it prints and how it ends, over any files, sockets,
 //! clock and streams.
 //!
-//! In reading order: `program`, `call`, `commands` (the list), `register` (commands over one), `commands/*`,
-//! `resolver`, `loopback`, `sockets`, `file`, `lines`, `streams`, `usage`, `refusal`, `status`.
+//! In reading order: `command_line` (the words of any program), `program`, `call`, `environment` (files, sockets and a
+//! clock), `commands` (the list), `over_register` (what commands over one register share), `commands/*`, `resolver`,
+//! `loopback`, `sockets`, `file`, `lines`, `streams`, `usage`, `refusal`, `status`.
+//! Calls that return `AllocError` fail only if out of memory. `open_file` gives the file at a path, or None where it can't
+//! be opened.
 //! Tests: ddt_command_tests/commands.
 #![tactic(auto)]
 
 mod call;
+pub mod command_line;
 mod commands;
+mod environment;
 mod file;
 mod lines;
 mod loopback;
+mod over_register;
 mod program;
 mod refusal;
-mod register;
 mod resolver;
 mod sockets;
 mod status;
@@ -30,9 +35,10 @@ pub use commands::loops::run_loop;
 pub use commands::replay::{Replay, run_replay, run_script};
 pub use commands::serve::run_serve;
 pub use commands::show::run_show;
+pub use environment::Environment;
+pub use over_register::register_at;
 pub use program::run;
 pub use refusal::{Refusal, RegisterRefusal};
-pub use register::register_at;
 pub use resolver::RESOLVER;
 pub use status::Status;
 pub use streams::refuse;

@@ -1,20 +1,20 @@
 //! Why a command gives no answer, and the line that says so. Each source of refusals has a type of its own.
 
+mod bad_word;
 mod message;
-mod register;
+mod register_file;
 mod script;
 mod server;
-mod word;
 
+pub use bad_word::WordRefusal;
 pub use message::MessageRefusal;
-pub use register::RegisterRefusal;
+pub use register_file::RegisterRefusal;
 pub use script::ScriptRefusal;
 pub use server::ServerRefusal;
 use std::alloc::AllocError;
 use std::fmt;
-pub use word::WordRefusal;
 
-/// The first thing that stands in a command's way.
+/// Why a command refuses.
 #[derive(Clone, Copy, Debug)]
 pub enum Refusal<'a> {
     /// One of the words isn't what the command takes.

@@ -2,11 +2,12 @@
 
 ghost use Rattle.std.specs.Prelude.{◌≡◌, ◌++◌, Ok, None, Some, IfOk, IfErr, IfSome, map, option_map};
 ghost use Rattle.ddt_text.specs.FirstFault.{xeid_in};
-ghost use Rattle.ddt_words.specs.Call.{call_of};
+ghost use Rattle.ddt_commands.specs.CommandLine.Call.{call_of};
 ghost use Rattle.ddt_lines.specs.Lines.{ended};
-ghost use Rattle.ddt_commands.specs.Lookup.{address_refusal, bad_identifier, me_in, number_refusal, seed_in, why_text, xeid_words};
-ghost use Rattle.ddt_commands.specs.Replay.{ask_error_text};
+ghost use Rattle.ddt_commands.specs.Commands.Lookup.{address_refusal, bad_identifier, me_in, number_refusal, seed_in, why_text, xeid_words};
+ghost use Rattle.ddt_commands.specs.Commands.Replay.{ask_error_text};
 
+use crate::command_line::Words;
 use crate::commands::assign::identifier;
 use crate::refusal::WordRefusal;
 use ddt_cache::Entry;
@@ -15,7 +16,6 @@ use ddt_resolver::{AskError, Resolver, Why};
 use ddt_sim::Compiled;
 use ddt_text::{parse_locator, read_number};
 use ddt_trie::TrieMap;
-use ddt_words::Words;
 use std::alloc::{AllocError, Global};
 
 /// The address of the resolver that asks, 127.0.0.53.
@@ -81,7 +81,7 @@ pub fn first_nonce(word: Option<&str>) -> Result<u64, WordRefusal>
     }
 }
 
-/// A word, and what it is of.
+/// A word, a further text, and a line feed.
 pub fn plain_line(alloc: Global, word: &str, of: &str) -> Result<Vec<u8>, AllocError>
     ensures { IfOk result (λ line. line.items ≡ ended (word.now ++ of.now)) }
 {

@@ -1,4 +1,4 @@
-//! How an answer and a refusal come to their streams.
+//! What a command prints: its lines on the output, or the line of its refusal on the error stream.
 
 ghost use Rattle.std.specs.Prelude.{◌≡◌, ◌≢◌, ◌⊎◌, IfOk, string_bytes};
 ghost use Rattle.std.specs.Io.KnownBytes.{Appends};
@@ -7,9 +7,10 @@ ghost use Rattle.ddt_commands.specs.declared.status.Status.TheVariants.{
   Refused as IsRefused,
   Unprinted as IsUnprinted,
 };
+ghost use Rattle.ddt_commands.specs.Ends.{Ends, prints_result as as_printed, streams};
 ghost use Rattle.ddt_commands.specs.Refusal.{IsLineOf};
 ghost use Rattle.ddt_commands.specs.Status.{answer_status};
-ghost use Rattle.ddt_commands.specs.Telling.{PrintsRefusal, TellsFront};
+ghost use Rattle.ddt_commands.specs.Streams.{PrintsRefusal, PrintsRefusalFront};
 
 use crate::lines::Lines;
 use crate::refusal::Refusal;
@@ -18,8 +19,24 @@ use ddt_lines::print;
 use std::alloc::{AllocError, Global};
 use std::io::Write;
 
+/// Prints the lines of a command on `out`, or the line of its refusal on `err`; the status that the command ends with.
+/// Where a writer fails, it has a front of what it was to have.
+pub fn print_result<P: Write, E: Write>(
+    alloc: Global,
+    lines: &Result<Lines, Refusal<'_>>,
+    out: &mut P,
+    err: &mut E,
+) -> Status
+    ensures { Ends result (streams P.contents out.old out.new E.contents err.old err.new) (as_printed lines.now) }
+{
+    match lines {
+        Ok(lines) => answer(lines, out),
+        Err(refusal) => refuse(alloc, refusal, err),
+    }
+}
+
 /// Prints an answer, whole lines.
-pub fn answer<W: Write>(lines: &Lines, out: &mut W) -> Status
+fn answer<W: Write>(lines: &Lines, out: &mut W) -> Status
     ensures printed { result ≢ IsUnprinted → Appends (W.contents out.old) (W.contents out.new) lines.now.text.items }
     ensures front { AppendsFront (W.contents out.old) (W.contents out.new) lines.now.text.items }
     ensures ends { (result ≡ answer_status lines.now.complete) ⊎ (result ≡ IsUnprinted) }
@@ -31,10 +48,10 @@ pub fn answer<W: Write>(lines: &Lines, out: &mut W) -> Status
     }
 }
 
-/// Prints the line of a refusal. Where there is no memory for it, that is what is told.
+/// Prints the line of a refusal; `out of memory` where there is no memory for that line.
 pub fn refuse<E: Write>(alloc: Global, refusal: &Refusal<'_>, err: &mut E) -> Status
     ensures told { result ≡ IsRefused → PrintsRefusal refusal.now (E.contents err.old) (E.contents err.new) }
-    ensures front { TellsFront refusal.now (E.contents err.old) (E.contents err.new) }
+    ensures front { PrintsRefusalFront refusal.now (E.contents err.old) (E.contents err.new) }
     ensures ends { (result ≡ IsRefused) ⊎ (result ≡ IsUnprinted) }
 {
     let printed = match line_of(alloc, refusal) {
@@ -47,7 +64,7 @@ pub fn refuse<E: Write>(alloc: Global, refusal: &Refusal<'_>, err: &mut E) -> St
     }
 }
 
-/// The line of a refusal. Fails only if out of memory.
+/// The line of a refusal.
 fn line_of(alloc: Global, refusal: &Refusal<'_>) -> Result<String, AllocError>
     ensures { IfOk result (λ line. IsLineOf refusal.now (string_bytes line)) }
 {

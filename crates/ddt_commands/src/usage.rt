@@ -6,21 +6,10 @@ ghost use Rattle.ddt_commands.specs.declared.status.Status.TheVariants.{BadWords
 ghost use Rattle.ddt_commands.specs.Commands.{command_list};
 ghost use Rattle.ddt_commands.specs.Usage.{usage_of};
 
+use crate::commands::USAGE;
 use crate::status::Status;
 use ddt_lines::print;
 use std::io::Write;
-
-/// What words that fit no command are told: what follows from `command_list`.
-const USAGE: &str = "usage: ddt answer REGISTER GROUP XEID
-       ddt assign REGISTER XEID
-       ddt check REGISTER
-       ddt compile REGISTER GROUP
-       ddt loop REGISTER XEID... [--me ADDRESS] [--seed N] [--turns N]
-       ddt lookup REGISTER XEID... [--me ADDRESS] [--seed N]
-       ddt replay REGISTER SCRIPT [REGISTER...] [--me ADDRESS] [--seed N]
-       ddt serve CONFIG ADDRESS TURNS
-       ddt show HEX
-";
 
 /// Shows the commands: the words fit none. It allocates nothing.
 pub fn show_usage<E: Write>(err: &mut E) -> Status

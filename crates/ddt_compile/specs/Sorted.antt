@@ -20,7 +20,7 @@ AreSortedOf r zones = IsAccepted r × IsPermutation r.zones zones × AreZonesInO
 abbrev pub covers_at : List Zone → ℕ → ℕ → Zone → Bool
 covers_at zones at k d = covers (slice_index_or zones at d).prefix (slice_index_or zones k d).prefix
 
--- what the zone at a place covers stands together up to an end: each zone from there to the end, and none behind it
+-- what the zone at a place covers is consecutive up to an end: each zone from there to the end, and none after it
 abbrev pub IsEndOf : List Zone → ℕ → ℕ → Type 0
 IsEndOf zones at end =
     (at < end) × (end ≤ length zones)

@@ -7,7 +7,7 @@ ghost use Rattle.std.specs.BTreeMap.{get};
 ghost use Rattle.ddt_compile.specs.GroupConfig.{children_of};
 ghost use Rattle.ddt_compile.specs.Sorted.{AreSortedOf, HasLocatorsOf};
 
-use crate::below::zones_directly_below;
+use crate::sorted_zones::zones_directly_below;
 use ddt_check::Accepted;
 use ddt_config::Child;
 use ddt_path::{Listed, LocatorSet, Name};

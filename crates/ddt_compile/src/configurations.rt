@@ -14,11 +14,11 @@ ghost use Rattle.ddt_compile.specs.laws.Statements.{IsHonestConfig, HasRoom};
 ghost use Rattle.ddt_compile.specs.Lists.{list_at};
 ghost use Rattle.ddt_compile.specs.Sorted.{AreSortedOf, HasLocatorsOf};
 
-use crate::below::sorted_zones;
 use crate::children::children_of_zone;
-use crate::lists::{append, take};
+use crate::lists_by_key::{append, take};
 use crate::locators::locators_by_name;
 use crate::sites::sites_by_zone;
+use crate::sorted_zones::sorted_zones;
 use crate::wanted::is_wanted;
 use ddt_check::Accepted;
 use ddt_config::{Authority, Content, ServerConfig, SiteEntry};
@@ -46,7 +46,7 @@ pub fn compile(alloc: Global, accepted: &Accepted) -> Result<Listed<ServerConfig
     Ok(Listed::of(configs))
 }
 
-/// The configuration of the group of this name alone; None if and only if no group has it. The others aren't made.
+/// The configuration of the group of this name alone; None if and only if no group has it. No other is compiled.
 /// Fails only if out of memory.
 pub fn compile_group(
     alloc: Global,
@@ -67,7 +67,7 @@ pub fn compile_group(
     }
 }
 
-/// The configuration of a group, whose authorities are taken out.
+/// The configuration of a group. Its authorities are removed from the map.
 fn group_config(
     alloc: Global,
     accepted: &Accepted,
@@ -112,7 +112,7 @@ fn authorities_by_group(
     Ok(lists)
 }
 
-/// A zone with what is delegated in it; or with what is registered there, which is taken out.
+/// A zone with the zones that it delegates, or with its sites, which are removed from the map.
 fn authority(
     alloc: Global,
     accepted: &Accepted,

@@ -1,16 +1,17 @@
 //! The compiler: from an accepted register to one configuration for each server group.
 //!
-//! In reading order: `configurations`, `children`, `sites`, `below`, `wanted`, `lists`, `locators`, `laws`.
+//! In reading order: `configurations`, `children`, `sites`, `sorted_zones`, `wanted`, `lists_by_key`, `locators`,
+//! `laws`.
 //! Tests: ddt_register_tests/compile.
 #![tactic(auto)]
 
-mod below;
 mod children;
 mod configurations;
 mod laws;
-mod lists;
+mod lists_by_key;
 mod locators;
 mod sites;
+mod sorted_zones;
 mod wanted;
 
 pub use configurations::{compile, compile_group};

@@ -12,8 +12,8 @@ ghost use Rattle.ddt_compile.specs.GroupConfig.{sites_of, entry_of, is_wanted as
 ghost use Rattle.ddt_compile.specs.Lists.{list_at};
 ghost use Rattle.ddt_compile.specs.Sorted.{AreSortedOf};
 
-use crate::below::holder;
-use crate::lists::append;
+use crate::lists_by_key::append;
+use crate::sorted_zones::holder;
 use crate::wanted::is_wanted;
 use ddt_check::Accepted;
 use ddt_config::SiteEntry;

@@ -2,3 +2,4 @@ pub mod RoomLemmas
 pub mod StandsLemmas
 pub mod WriteLemmas
 pub mod OrderLemmas
+pub mod DigestLemmas

@@ -20,7 +20,7 @@ use Rattle.ddt_config.specs.declared.fault.ConfigFault.TheVariants.{Value, Shape
 use Rattle.ddt_config.specs.declared.authority.Content.{Content}
 use Rattle.ddt_config.specs.declared.authority.Content.TheVariants.{Children, Sites}
 use Rattle.ddt_config.specs.Shaped.{is_shaped}
-use Rattle.ddt_config.specs.Table.{key_text, role_text, each, of_kind, of_form, listed, text_of, array_of, array_or_none, text_at, all_of, is_text_value, is_table_value, entry_of, entries_in, locator_of, locators_in, path_in, role_of, role_in, name_in, child_in, site_in, content_in, authority_in, Outline, outline_in, with_shape, config_in}
+use Rattle.ddt_config.specs.Table.{key_text, role_text, each, of_kind, of_form, listed, text_of, array_of, array_or_none, text_at, all_of, is_text_value, is_table_value, item_of, items_in, locator_of, locators_in, path_in, role_of, role_in, name_in, child_in, site_in, content_in, authority_in, Outline, outline_in, with_shape, config_in}
 use Rattle.ddt_config.specs.Stands.{HoldsText, HoldsPrefix, AreFor, IsArrayOf, IsLocatorText, HoldsLocators, IsTomlTableOf, HoldsTables, IsChild, IsSite, IsContent, IsAuthority, Stands}
 
 -- what is read is what stands there
@@ -158,24 +158,24 @@ module _ {A : Type 0} (read : Members → Result A ConfigFault) (Is : Members �
   table_kind : (d : Data) (x : A) → IsTomlTableOf Is d x → is_table_value d ≡ true
   table_kind d x h = rw h.1 refl
 
-  entry_agrees : (k : Key) → Agrees (entry_of k read) (IsTomlTableOf Is)
-  entry_agrees k d x = (
+  item_agrees : (k : Key) → Agrees (item_of k read) (IsTomlTableOf Is)
+  item_agrees k d x = (
     λ e.
         let s = bind_ok (of_kind k (as_table d)) read x e in
         (s.0, is_table d s.0 (kind_ok k (as_table d) s.0 s.1), (agrees s.0 x).0 s.2),
     λ h. rw h.1 ((agrees h.0 x).1 h.2),
   )
 
-  tables_agree : (k : Key) → Agrees (entries_in k read) (λ ms. HoldsTables Is ms k)
+  tables_agree : (k : Key) → Agrees (items_in k read) (λ ms. HoldsTables Is ms k)
   tables_agree k ms xs = (to (get_member (key_text k) ms), from)
     where
-      to : (o : Option Data) → ((array_or_none k o >>= all_of k is_table_value) >>= each (entry_of k read)) ≡ Ok xs
+      to : (o : Option Data) → ((array_or_none k o >>= all_of k is_table_value) >>= each (item_of k read)) ≡ Ok xs
           → ((d : Data) × (o ≡ Some d) × IsArrayOf (IsTomlTableOf Is) d xs) ⊎ ((o ≡ None) × (xs ≡ []))
       to None e = inr (refl, sym (same_value e))
-      to (Some d) e = inl (d, refl, array_for is_table_value (entry_of k read) (IsTomlTableOf Is) (entry_agrees k) table_kind k d xs e)
+      to (Some d) e = inl (d, refl, array_for is_table_value (item_of k read) (IsTomlTableOf Is) (item_agrees k) table_kind k d xs e)
 
-      from : HoldsTables Is ms k xs → entries_in k read ms ≡ Ok xs
-      from (inl h) = rw h.1 (for_array is_table_value (entry_of k read) (IsTomlTableOf Is) (entry_agrees k) table_kind k h.0 xs h.2)
+      from : HoldsTables Is ms k xs → items_in k read ms ≡ Ok xs
+      from (inl h) = rw h.1 (for_array is_table_value (item_of k read) (IsTomlTableOf Is) (item_agrees k) table_kind k h.0 xs h.2)
       from (inr h) = rw (h.0, h.1) refl
 
 -- ---- tables
@@ -202,10 +202,10 @@ site_agrees ms s = (
 
 content_to : (role : Role) (ms : Members) (content : Content) → content_in role ms ≡ Ok content → IsContent role ms content
 content_to Node ms content e =
-    let s = bind_ok (entries_in key.Child child_in ms) _ content e in
+    let s = bind_ok (items_in key.Child child_in ms) _ content e in
     subst (IsContent Node ms) (same_value s.2) ((tables_agree child_in IsChild child_agrees key.Child ms s.0).0 s.1)
 content_to Ms ms content e =
-    let s = bind_ok (entries_in key.Site site_in ms) _ content e in
+    let s = bind_ok (items_in key.Site site_in ms) _ content e in
     subst (IsContent Ms ms) (same_value s.2) ((tables_agree site_in IsSite site_agrees key.Site ms s.0).0 s.1)
 
 content_from : (role : Role) (ms : Members) (content : Content) → IsContent role ms content → content_in role ms ≡ Ok content
@@ -228,7 +228,7 @@ outline_to ms o e =
     let n = bind_ok (name_in ms) _ o e in
     let r = bind_ok (role_in ms) _ o n.2 in
     let l = bind_ok (locators_in key.Locators ms) _ o r.2 in
-    let a = bind_ok (entries_in key.Authority (authority_in r.0) ms) _ o l.2 in
+    let a = bind_ok (items_in key.Authority (authority_in r.0) ms) _ o l.2 in
     let name = (name_agrees ms n.0).0 n.1 in
     subst (Stands ms) (same_value a.2)
     (record {

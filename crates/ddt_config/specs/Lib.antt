@@ -6,3 +6,5 @@ pub mod Writing
 pub mod Entries
 pub mod Stands
 pub mod laws
+pub mod Settings
+pub mod Digest

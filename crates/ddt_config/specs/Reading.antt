@@ -18,9 +18,9 @@ abbrev pub Reads : {A : Type 0} → Result A ConfigFault → Result A ConfigFaul
 Reads wanted (Ok a) = wanted ≡ Ok a
 Reads wanted (Err fault) = fault ≢ Memory → wanted ≡ Err fault
 
--- a refusal of memory is told as Memory, and nothing else is
-abbrev pub IsToldAs : Type 0 → ConfigFault → Type 0
-IsToldAs memory fault = ((fault ≡ Memory) × memory) ⊎ ((fault ≡ Toml) × (memory → ⊥))
+-- a refusal of memory is reported as Memory, and nothing else is
+abbrev pub IsReportedAs : Type 0 → ConfigFault → Type 0
+IsReportedAs memory fault = ((fault ≡ Memory) × memory) ⊎ ((fault ≡ Toml) × (memory → ⊥))
 
 -- no list of locators has more than 8
 abbrev pub content_fits : Content → Bool

@@ -108,12 +108,12 @@ abbrev pub tables_at : Key → Members → Result (List Data) ConfigFault
 tables_at k ms = array_or_none k (get_member (key_text k) ms) >>= all_of k is_table_value
 
 -- what is examined in the table that a value is; a value of another kind is the fault Field of the key
-abbrev pub entry_of : {A : Type 0} → Key → (Members → Result A ConfigFault) → Data → Result A ConfigFault
-entry_of k examine d = table_of k d >>= examine
+abbrev pub item_of : {A : Type 0} → Key → (Members → Result A ConfigFault) → Data → Result A ConfigFault
+item_of k examine d = table_of k d >>= examine
 
 -- The authorities, children or sites at a key, examined from first to last; where the key is missing there are none.
-abbrev pub entries_in : {A : Type 0} → Key → (Members → Result A ConfigFault) → Members → Result (List A) ConfigFault
-entries_in k examine ms = tables_at k ms >>= each (entry_of k examine)
+abbrev pub items_in : {A : Type 0} → Key → (Members → Result A ConfigFault) → Members → Result (List A) ConfigFault
+items_in k examine ms = tables_at k ms >>= each (item_of k examine)
 
 -- the name of the group
 abbrev pub name_in : Members → Result (List ℕ) ConfigFault
@@ -157,8 +157,8 @@ site_in ms = do
 
 -- the tables under `child` of a DDT node, under `site` of a Map-Server; the other key is ignored
 abbrev pub content_in : Role → Members → Result Content ConfigFault
-content_in Node ms = entries_in key.Child child_in ms >>= λ children. Ok (Children children)
-content_in Ms ms = entries_in key.Site site_in ms >>= λ sites. Ok (Sites sites)
+content_in Node ms = items_in key.Child child_in ms >>= λ children. Ok (Children children)
+content_in Ms ms = items_in key.Site site_in ms >>= λ sites. Ok (Sites sites)
 
 -- An authority: `prefix` is examined before its children or sites.
 abbrev pub authority_in : Role → Members → Result Authority ConfigFault
@@ -184,7 +184,7 @@ outline_in ms = do
   name ← name_in ms
   role ← role_in ms
   locators ← locators_in key.Locators ms
-  authorities ← entries_in key.Authority (authority_in role) ms
+  authorities ← items_in key.Authority (authority_in role) ms
   Ok (record { name = name; role = role; locators = locators; authorities = authorities })
 
 -- A configuration that servers can have, else the fault Shape.

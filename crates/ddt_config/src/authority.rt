@@ -1,5 +1,5 @@
-//! A prefix that servers are in charge of, with its children or its sites (RFC 8111, section 4): the table of an
-//! authority.
+//! An authority: a prefix that the servers are authoritative for, with its children or its sites (RFC 8111, section
+//! 4), and its table.
 
 ghost use Rattle.std.specs.Prelude.{◌≡◌, IfOk, OnOk};
 ghost use Rattle.toml.specs.Data.{table};
@@ -9,7 +9,7 @@ ghost use Rattle.ddt_config.specs.Reading.{authority_fits};
 ghost use Rattle.ddt_config.specs.Writing.{written_authority, content_data, content_key as content_key_of, IsContentSpelled, IsAuthoritySpelled};
 
 use crate::child::{Child, ChildDraft};
-use crate::entry::{Entry, entries_at, settle_each};
+use crate::config_item::{ConfigItem, finish_each, items_at};
 use crate::fault::{ConfigFault, Key};
 use crate::members::prefix_in;
 use crate::site_entry::{SiteDraft, SiteEntry};
@@ -19,7 +19,7 @@ use std::alloc::{AllocError, Global};
 use std::marker::Model;
 use toml::{Table, Value};
 
-/// What an authority holds.
+/// The children or the sites of an authority.
 #[derive(Debug, Drop)]
 pub enum Content {
     /// The delegations of a DDT node.
@@ -28,7 +28,7 @@ pub enum Content {
     Sites(Listed<SiteEntry>),
 }
 
-/// A prefix that the servers are in charge of.
+/// A prefix that the servers are authoritative for (RFC 8111, section 4).
 #[derive(Debug, Drop)]
 pub struct Authority {
     pub prefix: Prefix,
@@ -43,14 +43,14 @@ impl Prefixed for Authority {
     }
 }
 
-/// What an authority holds, as its table has it.
+/// The children or the sites in an authority's table.
 #[derive(Debug, Drop)]
 pub enum ContentDraft {
     Children(Listed<ChildDraft>),
     Sites(Listed<SiteDraft>),
 }
 
-/// An authority as its table has it, with any number of locators in each list. Contracts see it as an authority.
+/// An authority in its table, with any number of locators in each list. Contracts see it as an authority.
 #[derive(Debug, Drop)]
 pub struct AuthorityDraft {
     pub prefix: Prefix,
@@ -74,30 +74,30 @@ impl Prefixed for AuthorityDraft {
     }
 }
 
-impl Entry for AuthorityDraft {
-    type Settled = Authority;
+impl ConfigItem for AuthorityDraft {
+    type Finished = Authority;
 
-    ghost entry_in = { authority_in };
+    ghost item_in = { authority_in };
 
     ghost has_room = { authority_fits };
 
-    ghost settled = { λ a. a };
+    ghost finished = { λ a. a };
 
     fn read(alloc: Global, role: Role, table: &Table) -> Result<AuthorityDraft, ConfigFault> {
         let prefix = prefix_in(table)?;
         let content = match role {
-            Role::Node => ContentDraft::Children(entries_at(alloc, role, table, Key::Child)?),
-            Role::Ms => ContentDraft::Sites(entries_at(alloc, role, table, Key::Site)?),
+            Role::Node => ContentDraft::Children(items_at(alloc, role, table, Key::Child)?),
+            Role::Ms => ContentDraft::Sites(items_at(alloc, role, table, Key::Site)?),
         };
         Ok(AuthorityDraft { prefix, content })
     }
 
-    fn settle(&self, alloc: Global) -> Result<Authority, AllocError> {
+    fn finish(&self, alloc: Global) -> Result<Authority, AllocError> {
         let content = match &self.content {
             ContentDraft::Children(children) => {
-                Content::Children(settle_each(alloc, children.as_slice())?)
+                Content::Children(finish_each(alloc, children.as_slice())?)
             }
-            ContentDraft::Sites(sites) => Content::Sites(settle_each(alloc, sites.as_slice())?),
+            ContentDraft::Sites(sites) => Content::Sites(finish_each(alloc, sites.as_slice())?),
         };
         Ok(Authority {
             prefix: self.prefix,

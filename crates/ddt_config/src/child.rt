@@ -1,11 +1,11 @@
-//! A delegation of a DDT node (RFC 8111, section 4): the table of a child.
+//! A child: a delegation of a DDT node (RFC 8111, section 4), and its table.
 
 ghost use Rattle.toml.specs.Data.{table};
 ghost use Rattle.ddt_config.specs.Table.{child_in};
 ghost use Rattle.ddt_config.specs.Shaped.{fits};
 ghost use Rattle.ddt_config.specs.Writing.{written_child, IsChildSpelled};
 
-use crate::entry::Entry;
+use crate::config_item::ConfigItem;
 use crate::fault::{ConfigFault, Key};
 use crate::members::{locators_at, prefix_in, role_in};
 use crate::values::{Written, array_value, prefix_value, put, role_value};
@@ -18,7 +18,7 @@ use toml::{Table, Value};
 #[derive(Clone, Copy, Debug)]
 pub struct Child {
     pub prefix: Prefix,
-    /// What those servers are.
+    /// Whether those servers are DDT nodes or Map-Servers.
     pub role: Role,
     /// Their locators, 1 to 8.
     pub locators: LocatorSet,
@@ -32,7 +32,7 @@ impl Prefixed for Child {
     }
 }
 
-/// A child as its table has it, with any number of locators. Contracts see it as a child.
+/// A child in its table, with any number of locators. Contracts see it as a child.
 #[derive(Debug, Drop)]
 pub struct ChildDraft {
     pub prefix: Prefix,
@@ -56,14 +56,14 @@ impl Prefixed for ChildDraft {
     }
 }
 
-impl Entry for ChildDraft {
-    type Settled = Child;
+impl ConfigItem for ChildDraft {
+    type Finished = Child;
 
-    ghost entry_in = { λ _ ms. child_in ms };
+    ghost item_in = { λ _ ms. child_in ms };
 
     ghost has_room = { λ c. fits c.locators };
 
-    ghost settled = { λ c. c };
+    ghost finished = { λ c. c };
 
     fn read(alloc: Global, _role: Role, table: &Table) -> Result<ChildDraft, ConfigFault> {
         let prefix = prefix_in(table)?;
@@ -76,7 +76,7 @@ impl Entry for ChildDraft {
         })
     }
 
-    fn settle(&self, _alloc: Global) -> Result<Child, AllocError> {
+    fn finish(&self, _alloc: Global) -> Result<Child, AllocError> {
         Ok(Child {
             prefix: self.prefix,
             role: self.role,

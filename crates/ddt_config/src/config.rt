@@ -1,27 +1,28 @@
-//! The configuration of the servers of one group: what RFC 8111, section 4, calls the delegations of a DDT node, and
-//! the sites of a Map-Server.
+//! The configuration of the servers of one group: the delegations of a DDT node or the sites of a Map-Server (RFC
+//! 8111, section 4).
 
 ghost use Rattle.std.specs.Prelude.{◌≡◌, true};
 ghost use Rattle.ddt_config.specs.Shaped.{is_shaped as is_shaped_of};
 
 use crate::authority::{Authority, AuthorityDraft};
-use crate::entry::{entries_at, settle_each};
+use crate::config_item::{finish_each, items_at};
 use crate::fault::{ConfigFault, Key};
 use crate::members::{locators_at, name_in, role_in};
-use crate::shape::{is_shaped, judged};
+use crate::shape::{is_shaped, require_shaped};
 use crate::values::{array_value, name_value, put, role_value};
 use ddt_path::{Listed, Locator, LocatorSet, Name, Role};
 use std::alloc::{AllocError, Global};
 use std::marker::Model;
 use toml::Table;
 
-/// The configuration of the servers of one group. Its authorities have distinct prefixes; what they hold is inside
-/// them and of the servers' kind. Children don't overlap; sites have distinct prefixes and may lie inside one another.
+/// The configuration of the servers of one group. Its authorities have distinct prefixes, and contain children where
+/// the servers are DDT nodes, or sites where they are Map-Servers. Children don't overlap; sites have distinct
+/// prefixes and may lie inside one another.
 #[derive(Debug, Drop)]
 pub struct ServerConfig {
     /// The name of the group.
     pub name: Name,
-    /// What the servers are.
+    /// Whether the servers are DDT nodes or Map-Servers.
     pub role: Role,
     /// Their locators, 1 to 8, no two alike.
     pub locators: LocatorSet,
@@ -29,7 +30,7 @@ pub struct ServerConfig {
     pub ghost shaped: { is_shaped_of role locators authorities ≡ true },
 }
 
-/// What the top table holds, of any shape, with any number of locators in each list. Contracts see the outline.
+/// A configuration as it is read, of any shape, with any number of locators in each list. Contracts see its outline.
 #[derive(Debug, Drop)]
 pub struct Draft {
     name: Name,
@@ -51,14 +52,14 @@ impl Draft {
     ghost use Rattle.ddt_config.specs.Table.{outline_in};
     ghost use Rattle.ddt_config.specs.Reading.{Reads};
 
-    /// What a table holds.
+    /// Reads the draft in a table, whatever its shape.
     pub fn read(alloc: Global, table: &Table) -> Result<Draft, ConfigFault>
         ensures { Reads (outline_in (table_view table.now)) result }
     {
         let name = name_in(table)?;
         let role = role_in(table)?;
         let locators = locators_at(alloc, table, Key::Locators)?;
-        let authorities = entries_at::<AuthorityDraft>(alloc, role, table, Key::Authority)?;
+        let authorities = items_at::<AuthorityDraft>(alloc, role, table, Key::Authority)?;
         Ok(Draft {
             name,
             role,
@@ -74,15 +75,16 @@ impl ServerConfig {
     ghost use Rattle.ddt_config.specs.Table.{outline, with_shape, config_in};
     ghost use Rattle.ddt_config.specs.Writing.{written_config};
 
-    /// The configuration of a draft. Refused as 4 Shape where the draft isn't shaped; 5 Memory may come at any time.
+    /// Makes the configuration of a draft. Refused as 4 Shape where the draft isn't shaped, and as 5 Memory if out of
+    /// memory.
     pub(crate) fn of(alloc: Global, draft: &Draft) -> Result<ServerConfig, ConfigFault>
         ensures found { IfOk result (λ c. with_shape draft.now ≡ Ok (outline c)) }
         ensures refused { IfErr result (λ fault. fault ≢ ConfigFault.Memory → with_shape draft.now ≡ Err fault) }
     {
         let locators = draft.locators.as_slice();
         let authorities = draft.authorities.as_slice();
-        judged(is_shaped(alloc, draft.role, locators, authorities))?;
-        let authorities = settle_each(alloc, authorities)?;
+        require_shaped(is_shaped(alloc, draft.role, locators, authorities))?;
+        let authorities = finish_each(alloc, authorities)?;
         Ok(ServerConfig {
             name: draft.name,
             role: draft.role,
@@ -91,7 +93,7 @@ impl ServerConfig {
         })
     }
 
-    /// The table of the configuration.
+    /// Returns the table of the configuration.
     pub(crate) fn write(&self, alloc: Global) -> Result<Table, AllocError>
         ensures written { IfOk result (λ t. table_view t ≡ written_config (outline self.now)) }
         ensures back { OnOk result (config_in (written_config (outline self.now)) ≡ Ok (outline self.now)) }

@@ -7,7 +7,7 @@ ghost use Rattle.toml.specs.Text.{IsDocumentText};
 ghost use Rattle.toml.specs.View.{table_view};
 ghost use Rattle.ddt_config.specs.declared.config.ServerConfig.{ServerConfig as ConfigValue};
 ghost use Rattle.ddt_config.specs.Table.{config_in, config_in_text, outline, outline_in, StandsFor};
-ghost use Rattle.ddt_config.specs.Reading.{IsToldAs, Reads};
+ghost use Rattle.ddt_config.specs.Reading.{IsReportedAs, Reads};
 ghost use Rattle.ddt_config.specs.Writing.{written_config};
 
 use crate::config::{Draft, ServerConfig};
@@ -15,18 +15,18 @@ use crate::fault::ConfigFault;
 use std::alloc::{AllocError, Global};
 use toml::{Table, de, ser};
 
-/// The configuration that a text in TOML stands for. At its top stand `name`, `kind` (`node` or `ms`), `locators`, an
-/// array of texts, and `authority`, an array of tables. Such a table holds `prefix`; behind it stands, where nodes are
-/// in charge, `child`, tables of `prefix`, `kind` and `locators`, and where Map-Servers are, `site`, tables of `prefix`
-/// and `etrs`. The arrays of tables may be missing, and other keys are ignored.
+/// Reads a configuration from a text in TOML. The top table has `name`, `kind` (`node` or `ms`), `locators`, an array
+/// of texts, and `authority`, an array of tables. Such a table has `prefix`. The authority of a DDT node also has
+/// `child`, tables of `prefix`, `kind` and `locators`; that of a Map-Server has `site`, tables of `prefix` and `etrs`.
+/// The arrays of tables may be missing, and other keys are ignored.
 ///
 /// Refused, by the first fault in the order of keys, the shape last:
 ///
 /// - 1 Toml: the text is no TOML.
-/// - 2 Field: a key is missing that must be there, or a key holds a value of another kind.
+/// - 2 Field: a required key is missing, or a key has a value of another kind.
 /// - 3 Value: a text isn't of its key's form.
 /// - 4 Shape: each text is right, but no server has such a configuration.
-/// - 5 Memory: memory ran out; it may come in place of any other.
+/// - 5 Memory: out of memory; it may replace any other fault.
 pub fn from_toml(alloc: Global, text: &str) -> Result<ServerConfig, ConfigFault>
     ensures found { IfOk result (StandsFor text.now) }
     ensures every { (c : ConfigValue) → StandsFor text.now c → (result ≡ Ok c) ⊎ (result ≡ Err ConfigFault.Memory) }
@@ -38,9 +38,9 @@ pub fn from_toml(alloc: Global, text: &str) -> Result<ServerConfig, ConfigFault>
     }
 }
 
-/// What is told of a text that `toml` refuses: 5 Memory if and only if memory was refused.
+/// The fault of a text that `toml` refuses: 5 Memory if and only if it is out of memory.
 fn toml_fault(fault: &de::Error) -> ConfigFault
-    ensures { IsToldAs (IsMemory fault.now) result }
+    ensures { IsReportedAs (IsMemory fault.now) result }
 {
     if fault.is_memory() {
         ConfigFault::Memory
@@ -49,7 +49,7 @@ fn toml_fault(fault: &de::Error) -> ConfigFault
     }
 }
 
-/// The configuration that a table stands for. The table is dropped before the configuration is made. Refused as
+/// Reads a configuration from a table, which is dropped before the configuration is made. Refused as
 /// `from_toml` refuses a text of this table: as 2 Field, 3 Value, 4 Shape or 5 Memory.
 pub fn from_table(alloc: Global, table: Table) -> Result<ServerConfig, ConfigFault>
     ensures found { IfOk result (λ c. config_in (table_view table) ≡ Ok (outline c)) }
@@ -66,10 +66,10 @@ fn read_draft(alloc: Global, table: Table) -> Result<Draft, ConfigFault>
     Draft::read(alloc, &table)
 }
 
-/// The configuration as a text in TOML, as `from_toml` reads it. At its top stand `name`, `kind` (`node` or `ms`),
-/// `locators` and `authority`; each authority has `prefix` and either `child`, tables of `prefix`, `kind` and
-/// `locators`, or `site`, tables of `prefix` and `etrs`. There are no other keys, and an empty list is written too.
-/// Fails only if out of memory.
+/// Writes the configuration as a text in TOML, which `from_toml` reads as the same configuration. The top table has
+/// `name`, `kind` (`node` or `ms`), `locators` and `authority`. Each authority has `prefix` and either `child`, tables
+/// of `prefix`, `kind` and `locators`, or `site`, tables of `prefix` and `etrs`. There are no other keys, and an empty
+/// list is written too. Fails only if out of memory.
 pub fn to_toml(alloc: Global, config: &ServerConfig) -> Result<String, AllocError>
     ensures printed { IfOk result (λ text. IsDocumentText false (written_config (outline config.now))
         (string_bytes text)) }
@@ -83,8 +83,8 @@ pub fn to_toml(alloc: Global, config: &ServerConfig) -> Result<String, AllocErro
     }
 }
 
-/// The table of the configuration, of which `to_toml` gives the text and `from_table` the configuration. It nests at
-/// most 5 deep and holds no date that TOML can't write. Fails only if out of memory.
+/// Returns the configuration as a table: `to_toml` writes it as a text, and `from_table` reads it as the same
+/// configuration. It nests at most 5 deep and has no date that TOML can't write. Fails only if out of memory.
 pub fn to_table(alloc: Global, config: &ServerConfig) -> Result<Table, AllocError>
     ensures written { IfOk result (λ t. table_view t ≡ written_config (outline config.now)) }
     ensures read_back { IfOk result (λ t. config_in (table_view t) ≡ Ok (outline config.now)) }

@@ -1,4 +1,4 @@
-//! Why a text is no configuration.
+//! The keys of a configuration, and the faults of a text that is no configuration.
 
 ghost use Rattle.std.specs.Prelude.{◌≡◌};
 
@@ -21,7 +21,7 @@ pub enum Key {
 impl Key {
     ghost use Rattle.ddt_config.specs.Table.{key_text};
 
-    /// The word that stands in the text.
+    /// Returns the key as it is written in TOML.
     pub fn text(self) -> &'static str
         ensures { result.now ≡ key_text self }
     {
@@ -44,7 +44,7 @@ pub enum ConfigFault {
     /// It is no TOML.
     #[error("1 Toml")]
     Toml,
-    /// A key that must be there is missing, or a key holds a value of another kind.
+    /// A required key is missing, or a key has a value of another kind.
     #[error("2 Field")]
     Field(Key),
     /// The text of a key isn't of the form that the key asks for.
@@ -53,7 +53,7 @@ pub enum ConfigFault {
     /// The tables are well formed, but no server has such a configuration.
     #[error("4 Shape")]
     Shape,
-    /// Memory was refused.
+    /// Out of memory.
     #[error("5 Memory")]
     Memory,
 }

@@ -1,19 +1,21 @@
-//! The configuration of a server group: what it holds, the shape that it keeps, and its text.
+//! The configuration of a server group, its shape and its text; the seal that detects a text that was cut or edited;
+//! and the settings of a server and of a Map-Resolver.
 //!
-//! In reading order: `fault`, `members`, `values`, `entry`, `child`, `site_entry`, `authority`, `config`, `neighbours`,
-//! `shape`, `document`, `laws`.
-//! Tests: ddt_register_tests/config.
+//! In reading order: `fault`, `members`, `values`, `entry`, `child`, `site_entry`, `authority`, `config`,
+//! `neighbours`, `shape`, `document`, `laws`, `digest`, `settings`. Tests: ddt_register_tests/config.
 #![tactic(auto)]
 
 mod authority;
 mod child;
 mod config;
+mod config_item;
+pub mod digest;
 mod document;
-mod entry;
 mod fault;
 mod laws;
 mod members;
 mod neighbours;
+pub mod settings;
 mod shape;
 mod site_entry;
 mod values;

@@ -1,4 +1,4 @@
-//! What a table holds at a key: texts, arrays, and what the texts stand for.
+//! Reads the value at a key of a table: a text, an array, a name, a role, a prefix or locators.
 
 ghost use Rattle.std.specs.Prelude.{◌≡◌, map};
 ghost use Rattle.std.specs.List.{list_all};
@@ -27,7 +27,7 @@ fn text_in<'t>(value: &'t Value, key: Key) -> Result<&'t str, ConfigFault>
     value.as_str().ok_or(ConfigFault::Field(key))
 }
 
-/// The table that a value is. Refused as 2 Field of the key where it is none.
+/// The value as a table. Refused as 2 Field of the key if it is no table.
 pub fn table_in<'t>(value: &'t Value, key: Key) -> Result<&'t Table, ConfigFault>
     ensures { IsReadAs (λ t. table_view t.now) result (table_of key (view value.now)) }
 {
@@ -79,7 +79,7 @@ fn are_tables(values: &[Value]) -> bool
     values.iter().all(|value| value.is_table())
 }
 
-/// The texts at a key.
+/// The array of texts at a key.
 fn texts_at<'t>(table: &'t Table, key: Key) -> Result<&'t [Value], ConfigFault>
     ensures { IsReadAs (λ vs. map view vs.now) result (texts_at_of key (table_view table.now)) }
 {
@@ -91,7 +91,7 @@ fn texts_at<'t>(table: &'t Table, key: Key) -> Result<&'t [Value], ConfigFault>
     }
 }
 
-/// The tables at a key, none where it is missing.
+/// The array of tables at a key; empty if the key is missing.
 pub fn tables_at<'t>(table: &'t Table, key: Key) -> Result<&'t [Value], ConfigFault>
     ensures { IsReadAs (λ vs. map view vs.now) result (tables_at_of key (table_view table.now)) }
 {
@@ -103,7 +103,7 @@ pub fn tables_at<'t>(table: &'t Table, key: Key) -> Result<&'t [Value], ConfigFa
     }
 }
 
-/// The name of the group.
+/// Reads the name of the group.
 pub fn name_in(table: &Table) -> Result<Name, ConfigFault>
     ensures { result ≡ name_of (table_view table.now) }
 {
@@ -125,14 +125,14 @@ fn role_of(text: &str) -> Result<Role, ConfigFault>
     }
 }
 
-/// What the servers are.
+/// Reads whether the servers are DDT nodes or Map-Servers.
 pub fn role_in(table: &Table) -> Result<Role, ConfigFault>
     ensures { result ≡ role_of_table (table_view table.now) }
 {
     text_at(table, Key::Kind).and_then(role_of)
 }
 
-/// The prefix of an authority, a child or a site.
+/// Reads the prefix of an authority, a child or a site.
 pub fn prefix_in(table: &Table) -> Result<Prefix, ConfigFault>
     ensures { result ≡ path_in (table_view table.now) }
 {
@@ -162,7 +162,7 @@ fn read_locators(alloc: Global, values: &[Value], key: Key) -> Result<Listed<Loc
     Ok(Listed::of(locators))
 }
 
-/// The locators at a key, however many.
+/// Reads the locators at a key, any number of them.
 pub fn locators_at(alloc: Global, table: &Table, key: Key) -> Result<Listed<Locator>, ConfigFault>
     ensures { Reads (locators_in key (table_view table.now)) result }
 {

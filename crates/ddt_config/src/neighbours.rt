@@ -1,4 +1,4 @@
-//! The tests of all pairs of prefixes, by the neighbours of a sorted list.
+//! Tests that no two prefixes of a list clash: it sorts them and compares neighbours alone.
 
 ghost use Rattle.std.specs.Prelude.{◌≡◌, map, IfOk, IsPermutation, IsSorted};
 ghost use Rattle.std.specs.Cmp.Lexicographic.{slice_cmp};
@@ -12,7 +12,7 @@ use std::alloc::{AllocError, Global};
 /// How two prefixes clash.
 #[derive(Clone, Copy)]
 pub enum Clash {
-    /// They are one.
+    /// They are equal.
     Same,
     /// They overlap.
     Overlap,
@@ -56,8 +56,7 @@ fn sorted_prefixes<T: Prefixed>(alloc: Global, items: &[T]) -> Result<Vec<Prefix
     Ok(prefixes)
 }
 
-/// Whether no two clash: in order, a prefix stands directly before those that are the same, and before all that it
-/// covers.
+/// Whether no two clash. In a sorted list a prefix is directly before its equals, and before all that it covers.
 fn no_neighbours_clash(prefixes: &[Prefix], clash: Clash) -> bool
     requires { IsSorted (slice_cmp nat_cmp) prefixes.now }
     ensures { result ≡ no_two (clashes clash) prefixes.now }

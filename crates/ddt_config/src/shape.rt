@@ -1,4 +1,4 @@
-//! The test of a configuration's shape.
+//! Tests the shape of a configuration: which authorities, children and sites its servers may have.
 
 ghost use Rattle.std.specs.Prelude.{◌≡◌, ◌≢◌, true, false, Ok, OnOk, IfOk, IfErr};
 ghost use Rattle.std.specs.List.{list_all};
@@ -33,9 +33,9 @@ pub fn is_shaped(
     are_authorities_of(alloc, role, authorities)
 }
 
-/// What the test of the shape comes to: nothing where the draft is shaped, 4 Shape where it isn't, and 5 Memory where
-/// memory ran out before the answer.
-pub fn judged(shaped: Result<bool, AllocError>) -> Result<(), ConfigFault>
+/// Refuses a draft by the result of `is_shaped`: as 4 Shape if it isn't shaped, and as 5 Memory if the test ran out of
+/// memory.
+pub fn require_shaped(shaped: Result<bool, AllocError>) -> Result<(), ConfigFault>
     ensures exact { result ≡ shape_verdict shaped }
     ensures right { OnOk result (shaped ≡ Ok true) }
     ensures wrong { IfErr result (λ fault. fault ≢ ConfigFault.Memory → (shaped ≡ Ok false) × (fault ≡ Shape)) }

@@ -1,11 +1,11 @@
-//! A site of a Map-Server (RFC 8111, section 4): the table of a site.
+//! A site of a Map-Server (RFC 8111, section 4), and its table.
 
 ghost use Rattle.toml.specs.Data.{table};
 ghost use Rattle.ddt_config.specs.Table.{site_in};
 ghost use Rattle.ddt_config.specs.Shaped.{fits};
 ghost use Rattle.ddt_config.specs.Writing.{written_site, IsSiteSpelled};
 
-use crate::entry::Entry;
+use crate::config_item::ConfigItem;
 use crate::fault::{ConfigFault, Key};
 use crate::members::{locators_at, prefix_in};
 use crate::values::{Written, array_value, prefix_value, put};
@@ -14,7 +14,7 @@ use std::alloc::{AllocError, Global};
 use std::marker::Model;
 use toml::{Table, Value};
 
-/// A site of a Map-Server. The longest site that covers an identifier decides.
+/// A site of a Map-Server. The longest site that covers an XEID decides the answer.
 #[derive(Clone, Copy, Debug)]
 pub struct SiteEntry {
     pub prefix: Prefix,
@@ -30,7 +30,7 @@ impl Prefixed for SiteEntry {
     }
 }
 
-/// A site as its table has it, with any number of ETRs. Contracts see it as a site.
+/// A site in its table, with any number of ETRs. Contracts see it as a site.
 #[derive(Debug, Drop)]
 pub struct SiteDraft {
     pub prefix: Prefix,
@@ -53,14 +53,14 @@ impl Prefixed for SiteDraft {
     }
 }
 
-impl Entry for SiteDraft {
-    type Settled = SiteEntry;
+impl ConfigItem for SiteDraft {
+    type Finished = SiteEntry;
 
-    ghost entry_in = { λ _ ms. site_in ms };
+    ghost item_in = { λ _ ms. site_in ms };
 
     ghost has_room = { λ s. fits s.etrs };
 
-    ghost settled = { λ s. s };
+    ghost finished = { λ s. s };
 
     fn read(alloc: Global, _role: Role, table: &Table) -> Result<SiteDraft, ConfigFault> {
         let prefix = prefix_in(table)?;
@@ -68,7 +68,7 @@ impl Entry for SiteDraft {
         Ok(SiteDraft { prefix, etrs })
     }
 
-    fn settle(&self, _alloc: Global) -> Result<SiteEntry, AllocError> {
+    fn finish(&self, _alloc: Global) -> Result<SiteEntry, AllocError> {
         Ok(SiteEntry {
             prefix: self.prefix,
             etrs: LocatorSet::of_few(self.etrs.as_slice()),

@@ -1,4 +1,4 @@
-//! What is written at a key.
+//! Writes the value at a key: a name, a role, a prefix, locators, or an array of tables.
 
 ghost use Rattle.std.specs.Prelude.{◌≡◌, true, OnOk, IfOk, IsUtf8};
 ghost use Rattle.std.specs.List.{All};
@@ -16,7 +16,7 @@ use ddt_text::{write_locator, write_prefix};
 use std::alloc::{AllocError, Global};
 use toml::{Table, Value};
 
-/// What is written in an array, each as one value whose texts spell it.
+/// An item that is written as one value of an array.
 pub trait Written {
     ghost use Rattle.toml.specs.Data.{Data};
 
@@ -42,7 +42,7 @@ impl Written for Locator {
     }
 }
 
-/// The array of what is written of each.
+/// Writes each item, in order, as a value of one array.
 pub fn array_value<T: Written>(alloc: Global, items: &[T]) -> Result<Value, AllocError>
     ensures written { IfOk result (λ v. view v ≡ written_each T.written items.now) }
     ensures spelled { OnOk result (All T.is_spelled items.now) }
@@ -73,7 +73,7 @@ fn text_value(text: Vec<u8>) -> Value
     }
 }
 
-/// The name as a text.
+/// Writes the name as a text.
 #[tactic(auto, using(ddt_text::specs::laws::Ascii::utf8_name))]
 pub fn name_value(alloc: Global, name: Name) -> Result<Value, AllocError>
     ensures { IfOk result (λ v. (view v ≡ string name) × (is_name name ≡ true)) }
@@ -81,7 +81,7 @@ pub fn name_value(alloc: Global, name: Name) -> Result<Value, AllocError>
     Ok(text_value(Vec::from_slice(alloc, name.as_bytes())?))
 }
 
-/// The word of the role.
+/// Writes the role as `node` or `ms`.
 pub fn role_value(alloc: Global, role: Role) -> Result<Value, AllocError>
     ensures { IfOk result (λ v. view v ≡ string (role_text role)) }
 {
@@ -91,7 +91,7 @@ pub fn role_value(alloc: Global, role: Role) -> Result<Value, AllocError>
     }
 }
 
-/// The prefix as a text, which spells it.
+/// Writes the prefix as a text, which spells it.
 pub fn prefix_value(alloc: Global, prefix: Prefix) -> Result<Value, AllocError>
     ensures written { IfOk result (λ v. view v ≡ string (written_prefix prefix)) }
     ensures spelled { OnOk result (SpellsPrefix (written_prefix prefix) prefix) }

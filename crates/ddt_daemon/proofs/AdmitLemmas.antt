@@ -16,11 +16,11 @@ use Rattle.ddt_foreign.specs.declared.fault.ForeignRequestFault.{ForeignRequestF
 use Rattle.ddt_foreign.specs.declared.fault.ForeignRequestFault.TheVariants as fault
 use Rattle.ddt_foreign.specs.Request.{Asked, request_in}
 use Rattle.ddt_loop.specs.Acts.{Running}
-use Rattle.ddt_settings.specs.declared.settings.Settings.{Settings}
-use Rattle.ddt_daemon.specs.declared.itr_requests.Kept.{Kept}
+use Rattle.ddt_config.specs.declared.settings.resolver_settings.Settings.{Settings}
+use Rattle.ddt_daemon.specs.declared.itr_requests.WaitingRequest.{WaitingRequest}
 use Rattle.ddt_daemon.specs.declared.admission.Dropped.{Dropped}
 use Rattle.ddt_daemon.specs.declared.admission.Dropped.TheVariants.{Denied, TooLong, NoRequest, UnrecognizedAfi, Probe, NoReply, OwnAddress, Repeated, Full, SourceFull, SetFull, Looped, Memory}
-use Rattle.ddt_daemon.specs.Requests.{IsSpellable, judged, names_one, itr_request}
+use Rattle.ddt_daemon.specs.Requests.{IsSpellable, classified, names_one, itr_request}
 use Rattle.ddt_daemon.specs.Admitted.{MayCome, IsNotAsked, IsDropped}
 
 no_header : Ipv6Header
@@ -92,7 +92,7 @@ of_bits v false false false own why is = of_this NoReply why tt is
 of_bits v false false true true why is = of_this OwnAddress why tt is
 of_bits v false false true false why is = of_first v (slice_get v.rlocs 0) why is
 
-of_request : (own : List Locator) (r : Result Asked ForeignRequestFault) (why : Dropped) → judged own r ≡ Err why → IsOfRequest why
+of_request : (own : List Locator) (r : Result Asked ForeignRequestFault) (why : Dropped) → classified own r ≡ Err why → IsOfRequest why
 of_request own (Ok v) why is = of_bits v v.ddt v.probe v.reply (names_one own v.rlocs) why is
 of_request own (Err fault.UnrecognizedAfi) why is = of_this UnrecognizedAfi why tt is
 of_request own (Err (fault.Headers h)) why is = of_this NoRequest why tt is
@@ -104,7 +104,7 @@ of_request own (Err fault.MaskLength) why is = of_this NoRequest why tt is
 of_request own (Err fault.ManyInstances) why is = of_this NoRequest why tt is
 of_request own (Err fault.NoRloc) why is = of_this NoRequest why tt is
 
-by_why : (settings : Settings) (from : Locator) (bytes : List ℕ) (kept : List Kept) (w : Running) (why : Dropped) → IsOfRequest why → IsNotAsked settings from bytes why → IsDropped settings kept w from bytes why
+by_why : (settings : Settings) (from : Locator) (bytes : List ℕ) (kept : List WaitingRequest) (w : Running) (why : Dropped) → IsOfRequest why → IsNotAsked settings from bytes why → IsDropped settings kept w from bytes why
 by_why settings from bytes kept w NoRequest its is = is
 by_why settings from bytes kept w UnrecognizedAfi its is = is
 by_why settings from bytes kept w Probe its is = is
@@ -120,6 +120,6 @@ by_why settings from bytes kept w Looped its is = absurd its
 by_why settings from bytes kept w Memory its is = absurd its
 
 -- a message that may come is dropped for what it asks
-pub dropped_for : (settings : Settings) (from : Locator) (bytes : List ℕ) (kept : List Kept) (w : Running) (why : Dropped) → MayCome settings from bytes
-    → judged settings.listen (request_in bytes) ≡ Err why → IsDropped settings kept w from bytes why
+pub dropped_for : (settings : Settings) (from : Locator) (bytes : List ℕ) (kept : List WaitingRequest) (w : Running) (why : Dropped) → MayCome settings from bytes
+    → classified settings.listen (request_in bytes) ≡ Err why → IsDropped settings kept w from bytes why
 dropped_for settings from bytes kept w why may is = by_why settings from bytes kept w why (of_request settings.listen (request_in bytes) why is) (may, is)

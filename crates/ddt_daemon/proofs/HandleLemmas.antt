@@ -1,17 +1,17 @@
 -- What is done with a request that is admitted.
 use Rattle.std.proofs.Common.{◌≡◌, ℕ, true, false, List, [], ◌∷◌, ◌++◌, Option, Some, None, refl, sym, ap, ◌∙◌}
 use Rattle.ddt_path.specs.declared.locator.Locator.{Locator}
-use Rattle.ddt_wires.specs.declared.call.Call.{Call}
-use Rattle.ddt_wires.specs.declared.call.Packet.{Packet}
+use Rattle.ddt_sockets.specs.declared.wire_calls.Call.{Call}
+use Rattle.ddt_sockets.specs.declared.wire_calls.Packet.{Packet}
 use Rattle.ddt_wire.specs.declared.message_type.MessageType.TheVariants.{Encapsulated}
 use Rattle.ddt_wire.specs.MessageType.{is_of}
 use Rattle.ddt_wire.specs.Referral.{written, message_of}
 use Rattle.ddt_resolver.specs.State.{State}
 use Rattle.ddt_resolver.specs.Within.{IsCut, whole, cut, cut_to}
 use Rattle.ddt_path.specs.declared.xeid.Xeid.{Xeid}
-use Rattle.ddt_daemon.specs.declared.itr_requests.Kept.{Kept}
+use Rattle.ddt_daemon.specs.declared.itr_requests.WaitingRequest.{WaitingRequest}
 use Rattle.ddt_loop.specs.Acts.{Running}
-use Rattle.ddt_settings.specs.declared.settings.Settings.{Settings}
+use Rattle.ddt_config.specs.declared.settings.resolver_settings.Settings.{Settings}
 use Rattle.ddt_daemon.specs.declared.admission.Admitted.TheVariants.{Waits as WaitsFor}
 use Rattle.ddt_daemon.specs.declared.admission.Waiter.{Waiter}
 use Rattle.ddt_daemon.specs.Admitted.{IsGranted}

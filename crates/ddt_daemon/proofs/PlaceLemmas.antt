@@ -5,7 +5,7 @@ use Rattle.ddt_path.specs.declared.locator.Locator.{Locator}
 use Rattle.ddt_path.specs.declared.record.Outcome.{Outcome}
 use Rattle.ddt_path.specs.declared.xeid.Xeid.{Xeid}
 use Rattle.ddt_path.specs.Path.{xeid_path}
-use Rattle.ddt_cache.specs.declared.entry.Entry.{Entry}
+use Rattle.ddt_cache.specs.declared.cache_entry.Entry.{Entry}
 use Rattle.ddt_cache.specs.Found.{IsFound}
 use Rattle.ddt_cache.specs.laws.Known.{IsFound-unique}
 use Rattle.ddt_resolver.specs.declared.itr_messages.ItrRequest.{ItrRequest}
@@ -14,13 +14,13 @@ use Rattle.ddt_resolver.specs.declared.results.Beginning.TheVariants.{Answer, Se
 use Rattle.ddt_resolver.specs.AskStep.{answer_of, begins_with, beginning_at, IsUnanswered}
 use Rattle.ddt_resolver.specs.State.{State}
 use Rattle.ddt_loop.specs.Acts.{Running}
-use Rattle.ddt_settings.specs.declared.settings.Settings.{Settings}
-use Rattle.ddt_daemon.specs.declared.itr_requests.Kept.{Kept}
+use Rattle.ddt_config.specs.declared.settings.resolver_settings.Settings.{Settings}
+use Rattle.ddt_daemon.specs.declared.itr_requests.WaitingRequest.{WaitingRequest}
 use Rattle.ddt_daemon.specs.declared.admission.Dropped.{Dropped}
 use Rattle.ddt_daemon.specs.declared.admission.Dropped.TheVariants.{Denied, TooLong, NoRequest, UnrecognizedAfi, Probe, NoReply, OwnAddress, Repeated, Full, SourceFull, SetFull, Looped, Memory}
 use Rattle.ddt_daemon.specs.declared.admission.Lookup.{Lookup}
 use Rattle.ddt_daemon.specs.declared.admission.Lookup.TheVariants.{Shared, Own}
-use Rattle.ddt_daemon.specs.Kept.{waits_for}
+use Rattle.ddt_daemon.specs.WaitingRequest.{waits_for}
 use Rattle.ddt_daemon.specs.Admitted.{Answers, BeginsAt, HasLookup, HasPlace, answered, shares, begins, IsRefusedPlace, IsRefusedWait, IsAllowed, IsAdmitted, IsDropped}
 
 begun : (a : Option Outcome) (own servers : List Locator) → Servers servers ≡ begins_with a own → (a ≡ None) × (servers ≡ own)
@@ -35,20 +35,20 @@ unanswered s x p e servers found is q f other =
 pub begins_at_its : (s : State) (x : Xeid) (p : List ℕ) (e : Entry) (servers : List Locator) → IsFound s.known (xeid_path x) p e → Servers servers ≡ beginning_at p e → BeginsAt s x servers
 begins_at_its s x p e servers found is = let b = begun (answer_of p e) e.servers servers is in (p, e, found, b.0, b.1)
 
-has_place : (kept : List Kept) (w : Running) (from : Locator) (q : ItrRequest) (lookup : Lookup) → HasLookup kept w from q.xeid lookup → HasPlace kept w from q
+has_place : (kept : List WaitingRequest) (w : Running) (from : Locator) (q : ItrRequest) (lookup : Lookup) → HasLookup kept w from q.xeid lookup → HasPlace kept w from q
 has_place kept w from q (Shared t) is = shares t is.0 is.1 is.2
 has_place kept w from q (Own servers) is = begins servers is.0 is.1 is.2 is.3
 
-pub admitted_at_once : {settings : Settings} (kept : List Kept) (w : Running) {from : Locator} {bytes : List ℕ} {q : ItrRequest} (o : Outcome)
+pub admitted_at_once : {settings : Settings} (kept : List WaitingRequest) (w : Running) {from : Locator} {bytes : List ℕ} {q : ItrRequest} (o : Outcome)
     → IsAllowed settings from bytes q → waits_for kept q ≡ false → Answers w.state q.xeid o → IsAdmitted settings kept w from bytes q
 admitted_at_once kept w o may unlike is = record { may = may; unlike = unlike; place = answered (o, is) }
 
-pub admitted_is : {settings : Settings} (kept : List Kept) (w : Running) {from : Locator} {bytes : List ℕ} {q : ItrRequest} (lookup : Lookup)
+pub admitted_is : {settings : Settings} (kept : List WaitingRequest) (w : Running) {from : Locator} {bytes : List ℕ} {q : ItrRequest} (lookup : Lookup)
     → IsAllowed settings from bytes q → waits_for kept q ≡ false → HasLookup kept w from q.xeid lookup → IsAdmitted settings kept w from bytes q
 admitted_is kept w {from} {q = q} lookup may unlike is = record { may = may; unlike = unlike; place = has_place kept w from q lookup is }
 
 -- a request that has a place doesn't wait for one of these reasons
-pub refused_wait : {settings : Settings} (kept : List Kept) (w : Running) {from : Locator} {bytes : List ℕ} {q : ItrRequest} (why : Dropped)
+pub refused_wait : {settings : Settings} (kept : List WaitingRequest) (w : Running) {from : Locator} {bytes : List ℕ} {q : ItrRequest} (why : Dropped)
     → IsAdmitted settings kept w from bytes q → IsRefusedWait why → IsDropped settings kept w from bytes why
 refused_wait kept w {q = q} why admitted (inl is) = rw is (q, admitted)
 refused_wait kept w {q = q} why admitted (inr is) = rw is (q, admitted)
@@ -61,7 +61,7 @@ answers_with s x p e o found is = (p, e, found, answered_by (answer_of p e) e.se
     answered_by None own o is = absurd (cc is)
     answered_by (Some o') own o is = cc is
 
-pub refused_is : {settings : Settings} (kept : List Kept) (w : Running) {from : Locator} {bytes : List ℕ} {q : ItrRequest} (why : Dropped)
+pub refused_is : {settings : Settings} (kept : List WaitingRequest) (w : Running) {from : Locator} {bytes : List ℕ} {q : ItrRequest} (why : Dropped)
     → IsAllowed settings from bytes q → waits_for kept q ≡ false → IsRefusedPlace kept w from q.xeid why → IsDropped settings kept w from bytes why
 refused_is kept w {q = q} Full may unlike is = (q, record { may = may; unlike = unlike; unanswered = is.0 }, is.1)
 refused_is kept w {q = q} SourceFull may unlike is = (q, record { may = may; unlike = unlike; unanswered = is.0 }, is.1)

@@ -5,14 +5,14 @@ use Rattle.std.proofs.lemmas.List.Elements.{All-nil, All-cons, All-head, All-tai
 use Rattle.ddt_path.specs.declared.locator.Locator.{Locator}
 use Rattle.ddt_path.specs.declared.record.Outcome.{Outcome}
 use Rattle.ddt_path.specs.declared.record.Outcome.TheVariants.{Registered, NotRegistered, Hole}
-use Rattle.ddt_wires.specs.declared.call.Call.{Call}
-use Rattle.ddt_wires.specs.declared.call.Call.TheVariants.{Received, Tried}
-use Rattle.ddt_wires.specs.Turns.{AreTried, most_bytes}
+use Rattle.ddt_sockets.specs.declared.wire_calls.Call.{Call}
+use Rattle.ddt_sockets.specs.declared.wire_calls.Call.TheVariants.{Received, Tried}
+use Rattle.ddt_sockets.specs.Turns.{AreTried, most_bytes}
 use Rattle.ddt_cache.specs.Moment.{last_moment}
 use Rattle.ddt_resolver.specs.declared.results.Why.{Why}
 use Rattle.ddt_resolver.specs.declared.itr_messages.ItrRequest.{ItrRequest}
 use Rattle.ddt_resolver.specs.State.{State, moved}
-use Rattle.ddt_loop.specs.declared.came.Ended.{Ended as End}
+use Rattle.ddt_loop.specs.declared.packet_outcome.Ended.{Ended as End}
 use Rattle.ddt_resolver.specs.declared.results.Asked.TheVariants.{Answer}
 use Rattle.ddt_resolver.specs.AskStep.{AskStep, cached}
 use Rattle.ddt_resolver.specs.Step.{asks as asks_step}
@@ -23,10 +23,10 @@ use Rattle.ddt_loop.specs.Sharing.{Sharer, TellsSharers, wait_on}
 use Rattle.ddt_loop.specs.Runs as runs
 use Rattle.ddt_loop.specs.Runs.{BeginsSound, HasRun, took, ticked, hastened, shared, waited, forgot, resent, passed, renewed}
 use Rattle.ddt_loop.specs.Runs.{begins as run_begins}
-use Rattle.ddt_wires.specs.declared.call.Packet.{Packet}
+use Rattle.ddt_sockets.specs.declared.wire_calls.Packet.{Packet}
 use Rattle.ddt_daemon.specs.Onward.{onward, to_server}
-use Rattle.ddt_settings.specs.declared.settings.Settings.{Settings}
-use Rattle.ddt_daemon.specs.declared.itr_requests.Kept.{Kept}
+use Rattle.ddt_config.specs.declared.settings.resolver_settings.Settings.{Settings}
+use Rattle.ddt_daemon.specs.declared.itr_requests.WaitingRequest.{WaitingRequest}
 use Rattle.ddt_daemon.specs.Admitted.{Answers, IsAdmitted}
 use Rattle.ddt_daemon.specs.Goes.{sharers, sharer_if, goes_on, Closes, starts, one, Follows}
 use Rattle.ddt_daemon.specs.Rounds as rounds
@@ -46,7 +46,7 @@ use Rattle.ddt_daemon.proofs.CloseLemmas.{sharers_append, tells_sharers}
 
 -- ---- the near wires
 
-sharers_push : (kept : List Kept) (k : Kept) (b : _) → k.begins ≡ b → sharers (kept ++ k ∷ []) ≡ sharers kept ++ sharer_if b k
+sharers_push : (kept : List WaitingRequest) (k : WaitingRequest) (b : _) → k.begins ≡ b → sharers (kept ++ k ∷ []) ≡ sharers kept ++ sharer_if b k
 sharers_push kept k b is = sharers_append kept (k ∷ []) ∙ ap (λ rest. sharers kept ++ rest) (append-nil (sharer_if k.begins k) ∙ ap (λ s. sharer_if s k) is)
 
 same_sharers : (servers : List Locator) (from : Locator) (bytes : List ℕ) (q : ItrRequest) (w new : Resolving) → KeepsAsked servers from bytes q w new → sharers new.kept ≡ sharers w.kept
@@ -225,10 +225,10 @@ runs_as r me start calls onward w fresh served = runs_on (BeginsSound r me) me s
 
 -- ---- the far wires
 
-abbrev IsKeptRequest : Kept → Type 0
+abbrev IsKeptRequest : WaitingRequest → Type 0
 IsKeptRequest k = AsksFor k.bytes k.request
 
-take_out : (P : Kept → Type 0) (before after : List Kept) (k : Kept) → All P (before ++ k ∷ after) → P k × All P (before ++ after)
+take_out : (P : WaitingRequest → Type 0) (before after : List WaitingRequest) (k : WaitingRequest) → All P (before ++ k ∷ after) → P k × All P (before ++ after)
 take_out P [] after k all = (All-head P k after all, All-tail P k after all)
 take_out P (b ∷ before) after k all =
     let rest = take_out P before after k (All-tail P b (before ++ k ∷ after) all) in
@@ -261,20 +261,20 @@ went_on me (Some b) (Ok (NotRegistered p servers)) bytes q far asks_it tried = n
 went_on me (Some b) (Ok (Hole p)) bytes q far asks_it tried = none_onward me far tried
 went_on me (Some b) (Err why) bytes q far asks_it tried = none_onward me far tried
 
-closed_onward : (me : Locator) (by : Option Locator) (e : End) (old : List Kept) (near far : List Call) (left : List Kept) → Closes me by e old near far left → AreRequests old
+closed_onward : (me : Locator) (by : Option Locator) (e : End) (old : List WaitingRequest) (near far : List Call) (left : List WaitingRequest) → Closes me by e old near far left → AreRequests old
     → AreRequests left × All (IsOnward me) far
 closed_onward me by e old near far left starts all = (all, All-nil (IsOnward me))
 closed_onward me by e old near far left (one {near = n} {far = f} {left = l} before after k told on so_far was apart its t o) all =
     let first = closed_onward me by e old n f l so_far all in
-    let split = take_out IsKeptRequest before after k (subst (λ (kept : List Kept). All IsKeptRequest kept) was first.0) in
+    let split = take_out IsKeptRequest before after k (subst (λ (kept : List WaitingRequest). All IsKeptRequest kept) was first.0) in
     (split.1, All-append (IsOnward me) f on first.1 (went_on me by e.end k.bytes k.request on split.0 o))
 
-followed : (me : Locator) (by : Option Locator) (ended : Option End) (old : List Kept) (near far : List Call) (new : List Kept) → Follows me by ended old near far new → AreRequests old
+followed : (me : Locator) (by : Option Locator) (ended : Option End) (old : List WaitingRequest) (near far : List Call) (new : List WaitingRequest) → Follows me by ended old near far new → AreRequests old
     → AreRequests new × All (IsOnward me) far
 followed me by None old near far new is all = rw (is.2, is.1) (all, All-nil (IsOnward me))
 followed me by (Some e) old near far new is all = closed_onward me by e old near far new is.closes all
 
-kept_more : (bytes : List ℕ) (q : ItrRequest) (from : Locator) (servers : Option (List Locator)) (kept : List Kept) (k : Kept) → AsksFor bytes q → WaitsAs servers from bytes q k → AreRequests kept → AreRequests (kept ++ k ∷ [])
+kept_more : (bytes : List ℕ) (q : ItrRequest) (from : Locator) (servers : Option (List Locator)) (kept : List WaitingRequest) (k : WaitingRequest) → AsksFor bytes q → WaitsAs servers from bytes q k → AreRequests kept → AreRequests (kept ++ k ∷ [])
 kept_more bytes q from servers kept k asks_it w all = All-push IsKeptRequest kept k all (rw (w.bytes_are, w.request) asks_it)
 
 kept_asked : (servers : List Locator) (from : Locator) (bytes : List ℕ) (q : ItrRequest) (w new : Resolving) → AsksFor bytes q → KeepsAsked servers from bytes q w new → AreRequests w.kept → AreRequests new.kept

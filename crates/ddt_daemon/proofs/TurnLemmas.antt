@@ -8,15 +8,15 @@ use Rattle.std.proofs.lemmas.List.Elements.{All-nil, All-push}
 use Rattle.ddt_path.specs.declared.locator.Locator.{Locator}
 use Rattle.ddt_config.specs.Table.{Outline}
 use Rattle.ddt_node.specs.Server.{without_d}
-use Rattle.ddt_wires.specs.declared.call.Call.{Call}
-use Rattle.ddt_wires.specs.Calls.{RecordsCalls}
-use Rattle.ddt_wires.specs.laws.Tell.{tells_both, tells_none}
-use Rattle.ddt_settings.specs.declared.server_settings.ServerSettings.{ServerSettings}
+use Rattle.ddt_sockets.specs.declared.wire_calls.Call.{Call}
+use Rattle.ddt_sockets.specs.Calls.{RecordsCalls}
+use Rattle.ddt_sockets.specs.laws.Tell.{tells_both, tells_none}
+use Rattle.ddt_config.specs.declared.settings.server_settings.ServerSettings.{ServerSettings}
 use Rattle.ddt_foreign.specs.declared.fault.ForeignRequestFault.{ForeignRequestFault}
 use Rattle.ddt_foreign.specs.Request.{Asked, request_in}
-use Rattle.ddt_wires.specs.declared.call.Call.TheVariants.{Received}
-use Rattle.ddt_wires.specs.declared.call.Packet.{Packet}
-use Rattle.ddt_wires.specs.Turns.{Outgoing, most_bytes, AreTried}
+use Rattle.ddt_sockets.specs.declared.wire_calls.Call.TheVariants.{Received}
+use Rattle.ddt_sockets.specs.declared.wire_calls.Packet.{Packet}
+use Rattle.ddt_sockets.specs.Turns.{Outgoing, most_bytes, AreTried}
 use Rattle.ddt_daemon.specs.declared.service.Service.{Service}
 use Rattle.ddt_daemon.specs.declared.service.Service.TheVariants.{NoRequest, UnrecognizedAfi, Probe, Denied, Client, Itr}
 use Rattle.ddt_daemon.specs.ServerTurns.{service_for, reply_for, onward_for, IsTurn, served, AreTurns}

@@ -4,7 +4,7 @@ use Rattle.ddt_path.specs.declared.locator.Locator.{Locator}
 use Rattle.ddt_path.specs.declared.record.Outcome.{Outcome}
 use Rattle.ddt_path.specs.declared.xeid.Xeid.{Xeid}
 use Rattle.ddt_path.specs.Path.{xeid_path, is_path}
-use Rattle.ddt_cache.specs.declared.entry.Entry.{Entry}
+use Rattle.ddt_cache.specs.declared.cache_entry.Entry.{Entry}
 use Rattle.ddt_foreign.specs.Request.{request_in}
 use Rattle.ddt_cache.specs.Found.{IsFound}
 use Rattle.ddt_resolver.specs.declared.itr_messages.ItrRequest.{ItrRequest}
@@ -12,9 +12,9 @@ use Rattle.ddt_resolver.specs.AskStep.{answer_of, IsUnanswered}
 use Rattle.ddt_resolver.specs.State.{State, most_pending}
 use Rattle.ddt_loop.specs.Acts.{Running}
 use Rattle.ddt_loop.specs.Sharing.{IsAskedBy}
-use Rattle.ddt_settings.specs.declared.settings.Settings.{Settings}
-use Rattle.ddt_settings.specs.Rlocs.{is_allowed}
-use Rattle.ddt_daemon.specs.declared.itr_requests.Kept.{Kept}
+use Rattle.ddt_config.specs.declared.settings.resolver_settings.Settings.{Settings}
+use Rattle.ddt_config.specs.Settings.Rlocs.{is_allowed}
+use Rattle.ddt_daemon.specs.declared.itr_requests.WaitingRequest.{WaitingRequest}
 use Rattle.ddt_daemon.specs.declared.admission.Dropped.{Dropped}
 use Rattle.ddt_daemon.specs.declared.admission.Dropped.TheVariants.{Denied, TooLong, NoRequest, UnrecognizedAfi, Probe, NoReply, OwnAddress, Repeated, Full, SourceFull, SetFull, Looped, Memory}
 use Rattle.ddt_daemon.specs.declared.admission.Lookup.{Lookup}
@@ -23,18 +23,18 @@ use Rattle.ddt_daemon.specs.declared.admission.Place.{Place}
 use Rattle.ddt_daemon.specs.declared.admission.Place.TheVariants.{Answered, Waits}
 use Rattle.ddt_daemon.specs.declared.admission.Admitted.{Admitted as Granted}
 use Rattle.ddt_daemon.specs.declared.admission.Admitted.TheVariants.{Answered as AnsweredNow, Waits as WaitsFor}
-use Rattle.ddt_daemon.specs.Kept.{waits_for, of_source, of_set}
-use Rattle.ddt_daemon.specs.Requests.{judged, IsSpellable}
+use Rattle.ddt_daemon.specs.WaitingRequest.{waits_for, of_source, of_set}
+use Rattle.ddt_daemon.specs.Requests.{classified, IsSpellable}
 
--- no longer request is kept
+-- the most bytes of a request that waits
 abbrev pub most_kept_bytes : ℕ
 most_kept_bytes = 1500
 
--- so many requests of one source wait at most: an eighth of all
+-- the most waiting requests of one source: an eighth of all
 abbrev pub most_of_source : ℕ
 most_of_source = 128
 
--- so many requests wait at most whose lookups begin at one referral set: a quarter of all
+-- the most waiting requests whose lookups begin at one referral set: a quarter of all
 abbrev pub most_of_set : ℕ
 most_of_set = 256
 
@@ -53,47 +53,47 @@ BeginsAt s x servers =
 
 -- no ITR waits for a lookup of an identifier, so that none can be shared
 abbrev pub IsUnasked : Running → Xeid → Type 0
-IsUnasked w x = (t : ℕ) → IsAskedBy w.desk.owners t x → ⊥
+IsUnasked w x = (t : ℕ) → IsAskedBy w.desk.waiting t x → ⊥
 
 -- there is room for one more request that waits, also of this source
-pub record HasRoom (kept : List Kept) (from : Locator) : Type 0 where
+pub record HasRoom (kept : List WaitingRequest) (from : Locator) : Type 0 where
   pub few : length kept < most_pending
   pub few_of_source : of_source kept from < most_of_source
 
 -- What a request needs. `answered`: its answer is remembered, so that it doesn't wait. `shares`: no answer is, and an ITR
 -- waits for the lookup of the same identifier. `begins`: none does, and a lookup begins at a referral set that few wait
 -- for.
-pub data HasPlace (kept : List Kept) (w : Running) (from : Locator) (q : ItrRequest) : Type 0 where
+pub data HasPlace (kept : List WaitingRequest) (w : Running) (from : Locator) (q : ItrRequest) : Type 0 where
   answered : IsAnswered w.state q.xeid → HasPlace kept w from q
-  shares : (t : ℕ) → IsUnanswered w.state q.xeid → IsAskedBy w.desk.owners t q.xeid → HasRoom kept from
+  shares : (t : ℕ) → IsUnanswered w.state q.xeid → IsAskedBy w.desk.waiting t q.xeid → HasRoom kept from
       → HasPlace kept w from q
   begins : (servers : List Locator) → IsUnasked w q.xeid → BeginsAt w.state q.xeid servers → HasRoom kept from
       → of_set kept servers < most_of_set → HasPlace kept w from q
 
 -- the lookup that a request waits for is that of an ITR which waits for the same identifier, or one that begins at a
 -- referral set
-abbrev pub HasLookup : List Kept → Running → Locator → Xeid → Lookup → Type 0
-HasLookup kept w from x (Shared t) = IsUnanswered w.state x × IsAskedBy w.desk.owners t x × HasRoom kept from
+abbrev pub HasLookup : List WaitingRequest → Running → Locator → Xeid → Lookup → Type 0
+HasLookup kept w from x (Shared t) = IsUnanswered w.state x × IsAskedBy w.desk.waiting t x × HasRoom kept from
 HasLookup kept w from x (Own servers) =
     IsUnasked w x × BeginsAt w.state x servers × HasRoom kept from × (of_set kept servers < most_of_set)
 
 -- where a request's place is: its answer is remembered, or it waits for a lookup
-abbrev pub IsPlaced : List Kept → Running → Locator → Xeid → Place → Type 0
+abbrev pub IsPlaced : List WaitingRequest → Running → Locator → Xeid → Place → Type 0
 IsPlaced kept w from x (Answered o) = Answers w.state x o
 IsPlaced kept w from x (Waits lookup) = HasLookup kept w from x lookup
 
 -- fewer requests wait than may, but as many of this source as may
-abbrev pub IsFullOfSource : List Kept → Locator → Type 0
+abbrev pub IsFullOfSource : List WaitingRequest → Locator → Type 0
 IsFullOfSource kept from = (length kept < most_pending) × (most_of_source ≤ of_source kept from)
 
 -- there is room but for the referral set at which a lookup of an identifier would begin, and no ITR waits for one
-abbrev pub IsFullOfSet : List Kept → Running → Locator → Xeid → Type 0
+abbrev pub IsFullOfSet : List WaitingRequest → Running → Locator → Xeid → Type 0
 IsFullOfSet kept w from x =
     HasRoom kept from × IsUnasked w x
     × ((servers : List Locator) × BeginsAt w.state x servers × (most_of_set ≤ of_set kept servers))
 
 -- why it has none
-abbrev pub IsRefusedPlace : List Kept → Running → Locator → Xeid → Dropped → Type 0
+abbrev pub IsRefusedPlace : List WaitingRequest → Running → Locator → Xeid → Dropped → Type 0
 IsRefusedPlace kept w from x Full = IsUnanswered w.state x × (most_pending ≤ length kept)
 IsRefusedPlace kept w from x SourceFull = IsUnanswered w.state x × IsFullOfSource kept from
 IsRefusedPlace kept w from x SetFull = IsUnanswered w.state x × IsFullOfSet kept w from x
@@ -110,46 +110,46 @@ MayCome settings from bytes = (is_allowed settings.allow from ≡ true) × (leng
 -- it may come from there, and this is what it asks of the resolver for an ITR
 pub record IsAllowed (settings : Settings) (from : Locator) (bytes : List ℕ) (q : ItrRequest) : Type 0 where
   pub may_come : MayCome settings from bytes
-  pub asks : judged settings.listen (request_in bytes) ≡ Ok q
+  pub asks : classified settings.listen (request_in bytes) ≡ Ok q
   pub identifier : IsTrue (is_path (xeid_path q.xeid))
   pub spelled : IsSpellable q
 
 -- it may come from there, and the resolver doesn't ask for it for this reason
 abbrev pub IsNotAsked : Settings → Locator → List ℕ → Dropped → Type 0
 IsNotAsked settings from bytes why =
-    MayCome settings from bytes × (judged settings.listen (request_in bytes) ≡ Err why)
+    MayCome settings from bytes × (classified settings.listen (request_in bytes) ≡ Err why)
 
 -- It is asked for: the request of an ITR that is allowed, which doesn't wait yet; and there is a place for it.
-pub record IsAdmitted (settings : Settings) (kept : List Kept) (w : Running) (from : Locator) (bytes : List ℕ)
+pub record IsAdmitted (settings : Settings) (kept : List WaitingRequest) (w : Running) (from : Locator) (bytes : List ℕ)
     (q : ItrRequest) : Type 0 where
   pub may : IsAllowed settings from bytes q
   pub unlike : waits_for kept q ≡ false
   pub place : HasPlace kept w from q
 
 -- What is asked for, of a message from there. Its answer is remembered, or it waits for a lookup, as it came.
-abbrev pub IsGranted : Settings → List Kept → Running → Locator → List ℕ → Granted → Type 0
+abbrev pub IsGranted : Settings → List WaitingRequest → Running → Locator → List ℕ → Granted → Type 0
 IsGranted settings kept w from bytes (AnsweredNow a) =
     IsAdmitted settings kept w from bytes a.request × Answers w.state a.request.xeid a.outcome
 IsGranted settings kept w from bytes (WaitsFor a) =
     IsAdmitted settings kept w from bytes a.request × HasLookup kept w from a.request.xeid a.lookup
     × (a.from ≡ from) × (a.bytes ≡ bytes)
 
--- where so many requests wait, and so many have room, there is room for one more that waits
+-- with this count of waiting requests and this capacity, there is room for one more
 abbrev pub HasRoomToWait : ℕ → ℕ → Granted → Type 0
 HasRoomToWait count room (AnsweredNow a) = Unit {0}
 HasRoomToWait count room (WaitsFor a) = count < room
 
 -- it would wait: no answer is remembered
-pub record WouldWait (settings : Settings) (kept : List Kept) (w : Running) (from : Locator) (bytes : List ℕ)
+pub record WouldWait (settings : Settings) (kept : List WaitingRequest) (w : Running) (from : Locator) (bytes : List ℕ)
     (q : ItrRequest) : Type 0 where
   pub may : IsAllowed settings from bytes q
   pub unlike : waits_for kept q ≡ false
   pub unanswered : IsUnanswered w.state q.xeid
 
 -- It is dropped, by the first of these reasons. Full, SourceFull, SetFull: no answer is remembered, and too many wait, of
--- all, of its source, or for the referral set at which its lookup would begin. Looped: there is a place for it, but it came back from where it was sent on to; no answer rests on what
--- came before. Memory: there is a place for it, but no memory to keep it in.
-abbrev pub IsDropped : Settings → List Kept → Running → Locator → List ℕ → Dropped → Type 0
+-- all, of its source, or for the referral set at which its lookup would begin. Looped: there is a place for it, but it
+-- came back from where it was sent on to; no answer rests on what came before. Memory: there is a place for it, but no memory to keep it in.
+abbrev pub IsDropped : Settings → List WaitingRequest → Running → Locator → List ℕ → Dropped → Type 0
 IsDropped settings kept w from bytes Denied = is_allowed settings.allow from ≡ false
 IsDropped settings kept w from bytes TooLong =
     (is_allowed settings.allow from ≡ true) × (most_kept_bytes < length bytes)

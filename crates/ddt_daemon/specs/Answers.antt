@@ -6,8 +6,8 @@ use Rattle.ddt_wire.specs.declared.fault.ReferralFault.{ReferralFault}
 use Rattle.ddt_wire.specs.declared.message_type.MessageType.TheVariants.{Encapsulated}
 use Rattle.ddt_wire.specs.MessageType.{is_of}
 use Rattle.ddt_wire.specs.Referral.{Message, message_in}
-use Rattle.ddt_wires.specs.declared.call.NetFault.{NetFault}
-use Rattle.ddt_wires.specs.declared.call.Packet.{Packet}
+use Rattle.ddt_sockets.specs.declared.wire_calls.NetFault.{NetFault}
+use Rattle.ddt_sockets.specs.declared.wire_calls.Packet.{Packet}
 use Rattle.ddt_daemon.specs.declared.answers.AnswerCounts.{AnswerCounts}
 use Rattle.ddt_daemon.specs.Counted.{plus}
 

@@ -2,8 +2,8 @@
 use Rattle.std.specs.Prelude.{ℕ, ◌+◌, ◌-◌, ◌^◌, min, Bool, true, false, Result, Ok, Err, Option, Some, None}
 use Rattle.ddt_path.specs.declared.record.Outcome.{Outcome}
 use Rattle.ddt_path.specs.declared.record.Outcome.TheVariants.{Registered, NotRegistered, Hole}
-use Rattle.ddt_wires.specs.declared.call.Packet.{Packet}
-use Rattle.ddt_wires.specs.declared.call.NetFault.{NetFault}
+use Rattle.ddt_sockets.specs.declared.wire_calls.Packet.{Packet}
+use Rattle.ddt_sockets.specs.declared.wire_calls.NetFault.{NetFault}
 use Rattle.ddt_resolver.specs.declared.results.Ignored.{Ignored}
 use Rattle.ddt_resolver.specs.declared.results.Ignored.TheVariants as ignored
 use Rattle.ddt_resolver.specs.declared.results.Why.{Why}
@@ -14,7 +14,7 @@ use Rattle.ddt_daemon.specs.declared.service.Service.{Service}
 use Rattle.ddt_daemon.specs.declared.service.Service.TheVariants as service
 use Rattle.ddt_daemon.specs.declared.counts.ServerCounts.{ServerCounts}
 use Rattle.ddt_daemon.specs.declared.counts.ResolverCounts.{ResolverCounts}
-use Rattle.ddt_daemon.specs.declared.counted.WireCounts.{WireCounts}
+use Rattle.ddt_daemon.specs.declared.counted_wires.WireCounts.{WireCounts}
 
 -- A count after so many more. Counts have 64 bits; one that would pass 2^64 - 1 stays there.
 abbrev pub plus : ℕ → ℕ → ℕ

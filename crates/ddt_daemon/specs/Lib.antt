@@ -1,5 +1,5 @@
 pub mod Words
-pub mod Kept
+pub mod WaitingRequest
 pub mod Recent
 pub mod Counted
 pub mod Answers

@@ -9,12 +9,12 @@ use Rattle.ddt_ecm.specs.EcmHeader.{s_place, d_place}
 use Rattle.ddt_ecm.specs.Request.{Message}
 use Rattle.ddt_ecm.specs.UdpHeader.{control_port}
 use Rattle.ddt_node.specs.Server.{IsDdtRequest, handled, first_etr}
-use Rattle.ddt_wires.specs.Turns.{Outgoing}
+use Rattle.ddt_sockets.specs.Turns.{Outgoing}
 use Rattle.ddt_resolver.specs.declared.results.Why.{Why}
 use Rattle.ddt_resolver.specs.declared.itr_messages.ItrRequest.{ItrRequest}
 use Rattle.ddt_resolver.specs.Front.{IsItrRequest}
 
--- a datagram with the bit D of its first byte set: the bits from S on, D, and those behind it
+-- a datagram with the bit D of its first byte set: the bits from S on, D, and those after it
 abbrev pub with_d : List ℕ → List ℕ
 with_d [] = []
 with_d (b ∷ others) = (b / s_place * s_place + d_place + b % d_place) ∷ others

@@ -2,9 +2,9 @@
 use Rattle.std.specs.Prelude.{ℕ, ◌≡◌, ◌-◌, ◌==◌, ◌&&◌, Bool, true, not, nat_lt, List, Contains, Option, Some}
 use Rattle.ddt_path.specs.Locators.{is_same_locator}
 use Rattle.ddt_daemon.specs.declared.recent_requests.Recent.{Recent}
-use Rattle.ddt_daemon.specs.Kept.{is_same_request}
+use Rattle.ddt_daemon.specs.WaitingRequest.{is_same_request}
 
--- for so many milliseconds a request is remembered
+-- the milliseconds for which a request is remembered
 abbrev pub memory : ℕ
 memory = 4000
 

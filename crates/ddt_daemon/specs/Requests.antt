@@ -26,22 +26,22 @@ itr_request v None = Err NoRequest
 
 -- What a request asks of a resolver with these addresses, or why it doesn't ask for it: a DDT client asks, an RLOC is
 -- probed, no Map-Reply is wanted, or the resolver would ask itself for what it answers.
-abbrev pub judged_request : List Locator → Asked → Result ItrRequest Dropped
-judged_request own v =
+abbrev pub classified_request : List Locator → Asked → Result ItrRequest Dropped
+classified_request own v =
     if v.ddt then Err NoRequest
     else if v.probe then Err Probe
     else if not v.reply then Err NoReply
     else if names_one own v.rlocs then Err OwnAddress
     else itr_request v (slice_get v.rlocs 0)
 
-abbrev pub judged : List Locator → Result Asked ForeignRequestFault → Result ItrRequest Dropped
-judged own (Ok v) = judged_request own v
-judged own (Err fault.UnrecognizedAfi) = Err UnrecognizedAfi
-judged own (Err _) = Err NoRequest
+abbrev pub classified : List Locator → Result Asked ForeignRequestFault → Result ItrRequest Dropped
+classified own (Ok v) = classified_request own v
+classified own (Err fault.UnrecognizedAfi) = Err UnrecognizedAfi
+classified own (Err _) = Err NoRequest
 
 -- the bytes ask this for an ITR
 abbrev pub AsksFor : List ℕ → ItrRequest → Type 0
-AsksFor bytes q = (own : List Locator) × (judged own (request_in bytes) ≡ Ok q)
+AsksFor bytes q = (own : List Locator) × (classified own (request_in bytes) ≡ Ok q)
 
 -- the core's grammar has a request that asks the same
 abbrev pub IsSpellable : ItrRequest → Type 0

@@ -1,16 +1,16 @@
 -- The rounds of a daemon: of a server at one of its sockets, and of a resolver between ITRs, servers and Map-Servers.
 use Rattle.std.specs.Prelude.{Bool, Result, IfSome, IfNone, is_some, ℕ, ◌≡◌, ◌≢◌, ◌⊎◌, List, [], ◌∷◌, ◌++◌, Option, Some, None, Ok, Err, true, false, ◌+◌}
 use Rattle.ddt_path.specs.declared.locator.Locator.{Locator}
-use Rattle.ddt_wires.specs.declared.call.Call.{Call}
-use Rattle.ddt_wires.specs.declared.call.Call.TheVariants.{Received, Tried}
-use Rattle.ddt_wires.specs.declared.call.NetFault.{NetFault}
-use Rattle.ddt_wires.specs.declared.call.Packet.{Packet}
+use Rattle.ddt_sockets.specs.declared.wire_calls.Call.{Call}
+use Rattle.ddt_sockets.specs.declared.wire_calls.Call.TheVariants.{Received, Tried}
+use Rattle.ddt_sockets.specs.declared.wire_calls.NetFault.{NetFault}
+use Rattle.ddt_sockets.specs.declared.wire_calls.Packet.{Packet}
 use Rattle.ddt_resolver.specs.declared.itr_messages.ItrRequest.{ItrRequest}
 use Rattle.ddt_resolver.specs.declared.results.Ignored.{Ignored}
 use Rattle.ddt_resolver.specs.Step.{Tick}
-use Rattle.ddt_loop.specs.declared.came.Ended.{Ended as End}
-use Rattle.ddt_loop.specs.declared.owner.Asker.TheVariants.{Itr}
-use Rattle.ddt_loop.specs.Askers.{with_owner}
+use Rattle.ddt_loop.specs.declared.packet_outcome.Ended.{Ended as End}
+use Rattle.ddt_loop.specs.declared.requester.Requester.TheVariants.{Itr}
+use Rattle.ddt_loop.specs.Requesters.{with_requester}
 use Rattle.ddt_loop.specs.Acts.{Running, running, AsksForItr, IsToldItr, HearsOrTicks, Hastens}
 use Rattle.ddt_loop.specs.Ends.{EndsBy, EndsByHaste, waiting_itrs}
 use Rattle.ddt_loop.specs.Ignoring.{IsIgnored}
@@ -24,8 +24,8 @@ use Rattle.ddt_loop.specs.Runs.{heard_of, MayEndBy, EndsByReply}
 use Rattle.ddt_wire.specs.declared.message_type.MessageType.TheVariants.{Encapsulated}
 use Rattle.ddt_wire.specs.MessageType.{is_of}
 use Rattle.ddt_loop.specs.Polls.{polled, IsPacketTaken}
-use Rattle.ddt_settings.specs.declared.settings.Settings.{Settings}
-use Rattle.ddt_daemon.specs.declared.itr_requests.Kept.{Kept}
+use Rattle.ddt_config.specs.declared.settings.resolver_settings.Settings.{Settings}
+use Rattle.ddt_daemon.specs.declared.itr_requests.WaitingRequest.{WaitingRequest}
 use Rattle.ddt_daemon.specs.declared.admission.Lookup.TheVariants.{Shared, Own}
 use Rattle.ddt_daemon.specs.declared.admission.Waiter.{Waiter}
 use Rattle.ddt_daemon.specs.declared.admission.Dropped.{Dropped}
@@ -38,11 +38,11 @@ use Rattle.ddt_daemon.specs.Spelled.{IsAskedFor, IsSpelledAs}
 -- a resolver, the requests that wait for its lookups, and what it has counted
 pub record Resolving : Type 0 where
   pub running : Running
-  pub kept : List Kept
+  pub kept : List WaitingRequest
   pub counts : ResolverCounts
 
 -- a resolver of these three parts, as a round or a tick begins with it and leaves it
-abbrev pub resolving : Running → List Kept → ResolverCounts → Resolving
+abbrev pub resolving : Running → List WaitingRequest → ResolverCounts → Resolving
 resolving w k c = record { running = w; kept = k; counts = c }
 
 -- time has passed, or hasn't: nothing else changes
@@ -54,7 +54,7 @@ abbrev pub at_moment : ℕ → Running → Running
 at_moment now w = running (moved now w.state) w.desk
 
 -- A request of an ITR that came from there waits, for a lookup that has begun at these servers, or for that of another.
-pub record WaitsAs (begins_ : Option (List Locator)) (from : Locator) (bytes : List ℕ) (q : ItrRequest) (k : Kept) : Type
+pub record WaitsAs (begins_ : Option (List Locator)) (from : Locator) (bytes : List ℕ) (q : ItrRequest) (k : WaitingRequest) : Type
     0 where
   pub begins : k.begins ≡ begins_
   pub request : k.request ≡ q
@@ -67,14 +67,14 @@ pub data KeepsAsked (servers : List Locator) (from : Locator) (bytes : List ℕ)
     0 where
   at_once : new.running.desk ≡ w.running.desk → new.kept ≡ w.kept → new.counts ≡ w.counts
       → KeepsAsked servers from bytes q w new
-  waits : (k : Kept) → WaitsAs (Some servers) from bytes q k
-      → new.running.desk ≡ with_owner w.running.desk k.ticket (Itr q)
+  waits : (k : WaitingRequest) → WaitsAs (Some servers) from bytes q k
+      → new.running.desk ≡ with_requester w.running.desk k.ticket (Itr q)
       → new.kept ≡ w.kept ++ k ∷ [] → new.counts ≡ with_lookup w.counts → KeepsAsked servers from bytes q w new
 
 -- What becomes of a request that waits. `shares`: it waits for the lookup of a ticket. `asks`: it is asked for.
 pub data IsAsked (me : Locator) (now : ℕ) (a : Waiter) (w : Resolving) (near : List Call) (new : Resolving) : Type 0
   where
-    shares : (t : ℕ) (k : Kept) → a.lookup ≡ Shared t → k.ticket ≡ t → WaitsAs None a.from a.bytes a.request k
+    shares : (t : ℕ) (k : WaitingRequest) → a.lookup ≡ Shared t → k.ticket ≡ t → WaitsAs None a.from a.bytes a.request k
         → near ≡ [] → new ≡ resolving w.running (w.kept ++ k ∷ []) (with_shared w.counts)
         → IsAsked me now a w near new
     asks : (servers : List Locator) → a.lookup ≡ Own servers → AsksForItr me now a.request w.running near new.running
@@ -82,7 +82,7 @@ pub data IsAsked (me : Locator) (now : ℕ) (a : Waiter) (w : Resolving) (near :
 
 -- the same ITRs wait as before: the lookup of none has ended
 abbrev pub StillWait : Running → Running → Type 0
-StillWait w new = waiting_itrs new.desk.owners ≡ waiting_itrs w.desk.owners
+StillWait w new = waiting_itrs new.desk.waiting ≡ waiting_itrs w.desk.waiting
 
 -- What a datagram of these bytes from UDP port 4342 does, as it is heard. One that the resolver ignores is counted by why.
 pub record HearsReply (me : Locator) (now : ℕ) (p : Packet) (heard : List ℕ) (w : Resolving) (near far : List Call)
@@ -142,7 +142,7 @@ pub data IsHandled (settings : Settings) (me : Locator) (now : ℕ) (p : Packet)
       → IsAdmitted settings w.kept (at_moment now w.running) p.from bytes q
       → Answers (moved now w.running.state) q.xeid o → IsToldItr me o q near → far ≡ []
       → new ≡ resolving (at_moment now w.running) w.kept w.counts → IsHandled settings me now p bytes w near far new
-  shared : (q : ItrRequest) (k : Kept) → is_of Encapsulated bytes ≡ true
+  shared : (q : ItrRequest) (k : WaitingRequest) → is_of Encapsulated bytes ≡ true
       → IsAdmitted settings w.kept (at_moment now w.running) p.from bytes q → WaitsAs None p.from bytes q k
       → HasLookup w.kept (at_moment now w.running) p.from q.xeid (Shared k.ticket) → near ≡ [] → far ≡ []
       → new ≡ resolving (at_moment now w.running) (w.kept ++ k ∷ []) (with_shared w.counts)
@@ -181,8 +181,8 @@ pub record IsTick (me : Locator) (now : ℕ) (w : Resolving) (near far : List Ca
   pub tries : List Call
   pub resolves : HearsOrTicks me now Tick w.running tries new.running
   pub ended : Option End
-  pub ends : MayEndBy (EndsBy Tick (moved now w.running.state) new.running.state w.running.desk.owners
-      new.running.desk.owners) ended
+  pub ends : MayEndBy (EndsBy Tick (moved now w.running.state) new.running.state w.running.desk.waiting
+      new.running.desk.waiting) ended
   pub no_end : IfNone ended (StillWait w.running new.running)
   pub tells : List Call
   pub follows : Follows me None ended w.kept tells far new.kept
@@ -195,15 +195,15 @@ pub record IsHastened (me : Locator) (now nonce : ℕ) (w : Resolving) (near far
     pub tries : List Call
     pub hastens : Hastens me now nonce w.running tries new.running
     pub ended : Option End
-    pub ends : MayEndBy (EndsByHaste nonce (moved now w.running.state) new.running.state w.running.desk.owners
-        new.running.desk.owners) ended
+    pub ends : MayEndBy (EndsByHaste nonce (moved now w.running.state) new.running.state w.running.desk.waiting
+        new.running.desk.waiting) ended
     pub no_end : IfNone ended (StillWait w.running new.running)
     pub tells : List Call
     pub follows : Follows me None ended w.kept tells far new.kept
     pub calls_are : near ≡ tries ++ tells
     pub counts : new.counts ≡ with_end w.counts ended
 
--- so many ticks, one after the other
+-- a number of ticks, one after the other
 pub data AreTicks (me : Locator) (now : ℕ) (w : Resolving) : ℕ → List Call → List Call → Resolving → Type 0 where
   no_tick : AreTicks me now w 0 [] [] w
   one_tick : {count : ℕ} {near far : List Call} {v : Resolving} (more on : List Call) (new : Resolving)

@@ -3,21 +3,21 @@ use Rattle.std.specs.Prelude.{ℕ, ◌≡◌, ◌≤◌, List, [], ◌∷◌, �
 use Rattle.ddt_path.specs.declared.locator.Locator.{Locator}
 use Rattle.ddt_path.specs.declared.xeid.Xeid.{Xeid}
 use Rattle.ddt_foreign.specs.Plain.{Gives}
-use Rattle.ddt_wires.specs.declared.call.Call.{Call}
-use Rattle.ddt_wires.specs.declared.call.Call.TheVariants.{Received, Tried}
-use Rattle.ddt_wires.specs.declared.call.Packet.{Packet}
-use Rattle.ddt_wires.specs.declared.call.NetFault.{NetFault}
+use Rattle.ddt_sockets.specs.declared.wire_calls.Call.{Call}
+use Rattle.ddt_sockets.specs.declared.wire_calls.Call.TheVariants.{Received, Tried}
+use Rattle.ddt_sockets.specs.declared.wire_calls.Packet.{Packet}
+use Rattle.ddt_sockets.specs.declared.wire_calls.NetFault.{NetFault}
 use Rattle.ddt_cache.specs.Moment.{last_moment}
 use Rattle.ddt_ecm.specs.UdpHeader.{control_port}
 use Rattle.ddt_resolver.specs.declared.itr_messages.ItrRequest.{ItrRequest}
 use Rattle.ddt_resolver.specs.Front.{IsItrRequest}
 use Rattle.ddt_resolver.specs.State.{State, forgotten}
-use Rattle.ddt_loop.specs.Askers.{opening_desk}
+use Rattle.ddt_loop.specs.Requesters.{opening_desk}
 use Rattle.ddt_loop.specs.Acts.{running, Resends}
 use Rattle.ddt_loop.specs.Runs.{BeginsSound, HasRun}
 use Rattle.ddt_daemon.specs.Onward.{with_d}
-use Rattle.ddt_settings.specs.declared.settings.Settings.{Settings}
-use Rattle.ddt_daemon.specs.declared.itr_requests.Kept.{Kept}
+use Rattle.ddt_config.specs.declared.settings.resolver_settings.Settings.{Settings}
+use Rattle.ddt_daemon.specs.declared.itr_requests.WaitingRequest.{WaitingRequest}
 use Rattle.ddt_daemon.specs.Goes.{sharers}
 use Rattle.ddt_daemon.specs.Requests.{AsksFor}
 use Rattle.ddt_daemon.specs.Rounds.{Resolving, resolving, at_moment, IsRound, IsTick, IsHastened}
@@ -85,7 +85,7 @@ pub record IsOnward (me : Locator) (call : Call) : Type 0 where
   pub is : call ≡ Tried me to control_port (with_d bytes) answer
 
 -- the bytes of what waits are its request
-abbrev pub AreRequests : List Kept → Type 0
+abbrev pub AreRequests : List WaitingRequest → Type 0
 AreRequests kept = All (λ k. AsksFor k.bytes k.request) kept
 
 -- any resolver may go on in the place of another

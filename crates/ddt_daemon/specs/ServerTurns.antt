@@ -16,18 +16,18 @@ use Rattle.ddt_foreign.specs.declared.fault.ForeignRequestFault.{ForeignRequestF
 use Rattle.ddt_foreign.specs.declared.fault.ForeignRequestFault.TheVariants as fault
 use Rattle.ddt_foreign.specs.Request.{Asked, request_in}
 use Rattle.ddt_node.specs.Server.{first_etr, without_d}
-use Rattle.ddt_wires.specs.declared.call.Call.{Call}
-use Rattle.ddt_wires.specs.declared.call.Call.TheVariants.{Received, Tried}
-use Rattle.ddt_wires.specs.declared.call.NetFault.{NetFault}
-use Rattle.ddt_wires.specs.declared.call.Packet.{Packet}
-use Rattle.ddt_wires.specs.declared.turns.Served.{Served}
-use Rattle.ddt_wires.specs.Turns.{Outgoing, AreTried, most_bytes, is_received, first_went_out}
+use Rattle.ddt_sockets.specs.declared.wire_calls.Call.{Call}
+use Rattle.ddt_sockets.specs.declared.wire_calls.Call.TheVariants.{Received, Tried}
+use Rattle.ddt_sockets.specs.declared.wire_calls.NetFault.{NetFault}
+use Rattle.ddt_sockets.specs.declared.wire_calls.Packet.{Packet}
+use Rattle.ddt_sockets.specs.declared.server_turns.Served.{Served}
+use Rattle.ddt_sockets.specs.Turns.{Outgoing, AreTried, most_bytes, is_received, first_went_out}
 use Rattle.ddt_resolver.specs.declared.itr_messages.ItrRequest.{ItrRequest}
 use Rattle.ddt_resolver.specs.Front.{reply_to_itr}
 use Rattle.ddt_resolver.specs.Records.{negative_answer}
 use Rattle.ddt_loop.specs.Acts.{sent, sent_if}
-use Rattle.ddt_settings.specs.declared.server_settings.ServerSettings.{ServerSettings}
-use Rattle.ddt_settings.specs.Rlocs.{is_allowed}
+use Rattle.ddt_config.specs.declared.settings.server_settings.ServerSettings.{ServerSettings}
+use Rattle.ddt_config.specs.Settings.Rlocs.{is_allowed}
 use Rattle.ddt_daemon.specs.declared.service.Service.{Service}
 use Rattle.ddt_daemon.specs.declared.service.Service.TheVariants.{NoRequest, UnrecognizedAfi, Probe, Denied, Client, Itr}
 use Rattle.ddt_daemon.specs.Requests.{is_one}
@@ -36,7 +36,7 @@ abbrev pub is_map_server : Role → Bool
 is_map_server Ms = true
 is_map_server Node = false
 
--- Whom a datagram from an address asks for, or why it is dropped. Only a Map-Server answers ITRs, and only those whose
+-- The kind of client of a datagram from an address, or why it is dropped. Only a Map-Server answers ITRs, and only those whose
 -- addresses its settings allow.
 abbrev pub service_for : Role → ServerSettings → Locator → Asked → Service
 service_for role settings from v =
@@ -120,7 +120,7 @@ pub data IsTurn (c : Outline) (settings : ServerSettings) (at : Locator) : List 
   out_of_memory : (p : Packet) (bytes : List ℕ) (v : Asked) → request_in bytes ≡ Ok v
       → IsServed (service_for c.role settings p.from v) → IsTurn c settings at (Received at most_bytes (Ok (Some p)) bytes ∷ [])
 
--- so many turns, one after the other
+-- a number of turns, one after the other
 pub record AreTurns (c : Outline) (settings : ServerSettings) (at : Locator) (count : ℕ) (calls : List Call) : Type 0
   where
     pub turns : List (List Call)

@@ -1,4 +1,4 @@
--- What a daemon is told.
+-- The commands for a daemon.
 use Rattle.std.specs.Prelude.{ℕ, List, codes}
 use Rattle.ddt_daemon.specs.declared.control_word.ControlWord.{ControlWord}
 use Rattle.ddt_daemon.specs.declared.control_word.ControlWord.TheVariants.{Stats, Reload, Flush, Servers, Sites, Cache, Lookup, Stop}

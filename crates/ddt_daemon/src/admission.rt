@@ -1,36 +1,36 @@
-//! Which Encapsulated Control Messages a resolver asks for.
+//! Admission: which Encapsulated Control Messages of ITRs a resolver starts a lookup for, and why it drops others.
 
 ghost use Rattle.std.specs.Prelude.{◌≡◌, ◌<◌, ◌∷◌, [], IsTrue, List, IfOk, IfErr};
 ghost use Rattle.ddt_path.specs.Path.{xeid_path, is_path};
 ghost use Rattle.ddt_ecm.specs.laws.Statements.{IsRequest};
 ghost use Rattle.ddt_loop.specs.Acts.{Running as ARunning};
-ghost use Rattle.ddt_daemon.specs.declared.itr_requests.Kept.{Kept as AKept};
+ghost use Rattle.ddt_daemon.specs.declared.itr_requests.WaitingRequest.{WaitingRequest as AWaitingRequest};
 ghost use Rattle.ddt_foreign.specs.Request.{request_in};
 ghost use Rattle.ddt_daemon.specs.Admitted.{IsAllowed, IsDropped};
-ghost use Rattle.ddt_daemon.specs.Requests.{judged, is_one as is_one_of, names_one as names_one_of};
+ghost use Rattle.ddt_daemon.specs.Requests.{classified, is_one as is_one_of, names_one as names_one_of};
 
+use ddt_config::settings::Settings;
 use ddt_foreign::{ForeignRequestFault, ItrRlocs, read_foreign_request};
 use ddt_path::{Listed, Locator, LocatorSet, Outcome, Prefix};
 use ddt_resolver::ItrRequest;
-use ddt_settings::Settings;
 
-/// No longer request is kept.
+/// The most bytes of a request that can wait.
 pub const MOST_KEPT_BYTES: usize = 1500;
 
-/// So many requests of one source wait at most: an eighth of all that may wait.
+/// The most waiting requests of one source: an eighth of all that may wait.
 pub const MOST_OF_SOURCE: usize = 128;
 
-/// So many requests wait at most whose lookups begin at one referral set: a quarter of all.
+/// The most waiting requests whose lookups begin at one referral set: a quarter of all.
 pub const MOST_OF_SET: usize = 256;
 
-/// Why an Encapsulated Control Message is dropped, in the order in which it is tested.
+/// The reason why an Encapsulated Control Message is dropped, in the order of the tests.
 #[derive(Clone, Copy, Debug, PartialEq, Eq)]
 pub enum Dropped {
-    /// It comes from an address that isn't allowed.
+    /// Its source address isn't allowed.
     Denied,
     /// It is longer than 1,500 bytes.
     TooLong,
-    /// It is no request of an ITR.
+    /// It isn't a request of an ITR.
     NoRequest,
     /// It has an AFI that RFC 9301, section 5, calls unrecognized.
     UnrecognizedAfi,
@@ -40,74 +40,74 @@ pub enum Dropped {
     NoReply,
     /// One of its ITR-RLOCs is an address of the resolver itself.
     OwnAddress,
-    /// The same request waits already.
+    /// The same request is already waiting.
     Repeated,
-    /// No answer is remembered, and as many requests wait as lookups can be pending.
+    /// No answer is cached, and as many requests wait as lookups can be pending.
     Full,
-    /// No answer is remembered, and 128 requests from its address wait.
+    /// No answer is cached, and 128 requests from its address wait.
     SourceFull,
-    /// No answer is remembered, and 256 requests wait whose lookups begin at the same referral set.
+    /// No answer is cached, and 256 requests wait whose lookups begin at the same referral set.
     SetFull,
-    /// The same request came from another address less than 4,000 milliseconds ago: it was sent on, and came back.
+    /// The same request came from another address less than 4,000 milliseconds ago: it was forwarded and came back.
     Looped,
-    /// There is no memory to keep it in.
+    /// There is no memory for it.
     Memory,
 }
 
-/// What becomes of a request of an ITR.
+/// How a request of an ITR is answered.
 #[derive(Clone, Copy, Debug)]
 pub(crate) enum Place {
-    /// This answer to it is remembered.
+    /// With this cached answer.
     Answered(Outcome),
-    /// It waits for a lookup.
+    /// After a lookup.
     Waits(Lookup),
 }
 
 /// The lookup that a request waits for.
 #[derive(Clone, Copy, Debug)]
 pub(crate) enum Lookup {
-    /// That of this ticket, which another request has started.
+    /// The lookup of this ticket, which another request has started.
     Shared(u64),
-    /// Its own, which begins at this referral set.
+    /// A new lookup, which begins at this referral set.
     Own(LocatorSet),
 }
 
-/// A request of an ITR that is asked for.
+/// A request of an ITR that is admitted.
 #[derive(Debug, Drop)]
 pub(crate) enum Admitted {
-    /// The answer to it is remembered.
+    /// Its answer is cached.
     Answered(Ready),
     /// It waits for a lookup.
     Waits(Waiter),
 }
 
-/// A request of an ITR, and the answer that is remembered.
+/// A request of an ITR with its cached answer.
 #[derive(Clone, Copy, Debug)]
 pub(crate) struct Ready {
     pub(crate) request: ItrRequest,
     pub(crate) outcome: Outcome,
 }
 
-/// A request of an ITR that waits for a lookup, with all that it takes to keep it.
+/// A request of an ITR that is to wait for a lookup, with all that is stored of it.
 #[derive(Debug, Drop)]
 pub(crate) struct Waiter {
     pub(crate) request: ItrRequest,
-    /// The address that it came from.
+    /// The source address.
     pub(crate) from: Locator,
     pub(crate) lookup: Lookup,
     /// The request's bytes, as they came.
     pub(crate) bytes: Listed<u8>,
 }
 
-/// What the bytes ask for an ITR, in any spelling that is read, where it may be asked for; or why they are dropped,
-/// whatever waits.
+/// Reads an ITR's request in any spelling that `ddt_foreign` reads. Refuses one that is dropped whatever else waits,
+/// with the reason.
 pub(crate) fn allowed_request(
     settings: &Settings,
     from: Locator,
     bytes: &[u8],
 ) -> Result<ItrRequest, Dropped>
     ensures allowed { IfOk result (IsAllowed settings.now from bytes.now) }
-    ensures dropped { IfErr result (λ why. (kept : List AKept) (w : ARunning)
+    ensures dropped { IfErr result (λ why. (kept : List AWaitingRequest) (w : ARunning)
         → IsDropped settings.now kept w from bytes.now why) }
 {
     if !settings.allows(from) {
@@ -116,7 +116,7 @@ pub(crate) fn allowed_request(
     if bytes.len() > MOST_KEPT_BYTES {
         return Err(Dropped::TooLong);
     }
-    match judge(settings.listen.as_slice(), bytes) {
+    match classify_request(settings.listen.as_slice(), bytes) {
         Ok(request) => {
             fits(request);
             Ok(request)
@@ -125,7 +125,7 @@ pub(crate) fn allowed_request(
     }
 }
 
-/// The numbers of a request are in the ranges of their types. The call does nothing.
+/// States that the numbers of a request are in the ranges of their types. The call does nothing.
 fn fits(request: ItrRequest)
     ensures message { IsRequest request.nonce request.xeid (request.to ∷ []) }
     ensures port { request.port < 65536 }
@@ -134,9 +134,9 @@ fn fits(request: ItrRequest)
     let _identifier = Prefix::host(request.xeid);
 }
 
-/// What the bytes ask of a resolver with these addresses, or why it doesn't ask for it.
-fn judge(own: &[Locator], bytes: &[u8]) -> Result<ItrRequest, Dropped>
-    ensures { result ≡ judged own.now (request_in bytes.now) }
+/// Reads the request of an ITR to a resolver with these addresses, or returns the reason why it is dropped.
+fn classify_request(own: &[Locator], bytes: &[u8]) -> Result<ItrRequest, Dropped>
+    ensures { result ≡ classified own.now (request_in bytes.now) }
 {
     let request = match read_foreign_request(bytes) {
         Ok(request) => request,
@@ -163,7 +163,7 @@ fn judge(own: &[Locator], bytes: &[u8]) -> Result<ItrRequest, Dropped>
     })
 }
 
-/// Whether one of a request's ITR-RLOCs is one of these addresses.
+/// Whether one of a request's ITR-RLOCs is one of the addresses `own`.
 fn has_one(rlocs: ItrRlocs<'_>, own: &[Locator]) -> bool
     ensures { result ≡ names_one_of own.now rlocs.entry }
 {

@@ -1,21 +1,21 @@
-//! Wires of a server that count what it answers, by action, and what it doesn't.
+//! Wires of a server that count its Map-Referrals by action, and the datagrams that are no Encapsulated Control
+//! Message.
 
 ghost use Rattle.std.specs.Prelude.{◌≡◌, ◌≤◌, [], ◌∷◌, length, IfOk, IfSome};
 ghost use Rattle.ddt_path.specs.declared.action.Action.{Action as AnAction};
-ghost use Rattle.ddt_wires.specs.declared.call.Call.TheVariants.{Tried};
-ghost use Rattle.ddt_wires.specs.Calls.{RecordsCalls, received};
+ghost use Rattle.ddt_sockets.specs.declared.wire_calls.Call.TheVariants.{Tried};
+ghost use Rattle.ddt_sockets.specs.Calls.{RecordsCalls, received};
 ghost use Rattle.ddt_daemon.specs.Answers.{none_answered, with_action, with_came, with_given, with_answer};
 
 use crate::counts::one_more;
 use ddt_path::{Action, Locator};
+use ddt_sockets::{NetFault, Packet, Wires};
 use ddt_wire::{MessageType, read_referral};
-use ddt_wires::{NetFault, Packet, Wires};
 
-/// How a server has answered, by the actions of its Map-Referrals (RFC 8111, section 6.4), whether these could be sent
-/// or not.
+/// The counts of a server's Map-Referrals by action (RFC 8111, section 6.4), whether they could be sent or not.
 #[derive(Clone, Copy, Debug, Default, PartialEq, Eq)]
 pub struct AnswerCounts {
-    /// Datagrams that came and are no Encapsulated Control Message. A server drops them.
+    /// Received datagrams that are no Encapsulated Control Message. A server drops them.
     pub not_encapsulated: u64,
     /// Map-Referrals, by their action.
     pub node_referral: u64,
@@ -27,7 +27,7 @@ pub struct AnswerCounts {
 }
 
 impl AnswerCounts {
-    /// Counts a datagram that came.
+    /// Counts a received datagram.
     fn come_one(&mut self, bytes: &[u8])
         ensures { self.new ≡ with_came self.old bytes.now }
     {
@@ -36,7 +36,7 @@ impl AnswerCounts {
         }
     }
 
-    /// Counts a datagram that goes out, if it is a Map-Referral.
+    /// Counts a sent datagram, if it is a Map-Referral.
     fn answer_one(&mut self, bytes: &[u8])
         ensures { self.new ≡ with_answer self.old bytes.now }
     {
@@ -60,7 +60,7 @@ impl AnswerCounts {
         }
     }
 
-    /// How many Map-Referrals there are in all.
+    /// The number of all Map-Referrals.
     pub fn referrals(&self) -> u64 {
         [
             self.node_referral,
@@ -75,7 +75,7 @@ impl AnswerCounts {
     }
 }
 
-/// Wires of a server that count how it answers.
+/// Wires of a server that count its answers.
 #[derive(Drop)]
 pub struct CountedAnswers<W: Wires + Drop> {
     pub wires: W,
@@ -83,7 +83,7 @@ pub struct CountedAnswers<W: Wires + Drop> {
 }
 
 impl<W: Wires + Drop> CountedAnswers<W> {
-    /// The wires, over which nothing is counted yet.
+    /// Wraps wires, with all counts 0.
     pub fn new(wires: W) -> CountedAnswers<W>
         ensures wires { result.wires ≡ wires }
         ensures answers { result.answers ≡ none_answered }

@@ -1,37 +1,37 @@
-//! What a daemon is told to do.
+//! The commands at a daemon's control socket.
 
 ghost use Rattle.std.specs.Prelude.{◌≡◌, ◌↔◌, Some};
 ghost use Rattle.ddt_daemon.specs.declared.control_word.ControlWord.{ControlWord as AWord};
 ghost use Rattle.ddt_daemon.specs.Words.{word_text};
 
-/// What a daemon is told to do.
+/// A command for a daemon.
 #[derive(Clone, Copy, Debug, PartialEq, Eq)]
 pub enum ControlWord {
-    /// To tell what it has counted.
+    /// Report the counts.
     Stats,
-    /// To take up its configuration or its settings anew.
+    /// Reload the configuration or the settings.
     Reload,
-    /// To forget what it remembers of referrals: of all, or of those inside a prefix.
+    /// Drop the cached referrals: all, or those inside a prefix.
     Flush,
-    /// To tell what is known of each server.
+    /// Report the state of each server.
     Servers,
-    /// To tell what is registered for each site that has a key.
+    /// Report the registrations of each site that has a key.
     Sites,
-    /// To tell what it remembers of referrals: of all, or of those inside a prefix.
+    /// Report the cached referrals: all, or those inside a prefix.
     Cache,
-    /// To tell what is remembered for an identifier.
+    /// Report the cached referral for an identifier.
     Lookup,
-    /// To end.
+    /// Stop the daemon.
     Stop,
 }
 
-/// The words, in the order of the variants.
+/// The words of the commands, in the order of the variants.
 pub const WORDS: [&str; 8] = [
     "stats", "reload", "flush", "servers", "sites", "cache", "lookup", "stop",
 ];
 
 impl ControlWord {
-    /// The word.
+    /// The word of the command.
     pub fn text(self) -> &'static str
         ensures { result.now ≡ word_text self }
     {
@@ -47,7 +47,7 @@ impl ControlWord {
         }
     }
 
-    /// What a line says, without its end; None where it says nothing of this.
+    /// The command with this word; None for any other text.
     pub fn of(line: &str) -> Option<ControlWord>
         ensures { (w : AWord) → (result ≡ Some w) ↔ (line.now ≡ word_text w) }
     {

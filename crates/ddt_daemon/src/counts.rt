@@ -1,24 +1,24 @@
-//! What a daemon counts. A count that is full stays so.
+//! The counts of a server and of a resolver. A count at its maximum stays there.
 
 ghost use Rattle.std.specs.Prelude.{◌≡◌};
 ghost use Rattle.ddt_daemon.specs.Counted.{plus, with_received_one as with_received, with_service, with_dropped, with_lookup, with_shared, with_cut, with_ignored, with_why, with_ended};
 
 use crate::admission::Dropped;
-use crate::service::{Done, Service};
+use crate::service::{Service, ServiceResult};
 use ddt_path::Outcome;
 use ddt_resolver::{Ignored, Why};
 
-/// What a server has done.
+/// The counts of a server.
 #[derive(Clone, Copy, Debug, Default, PartialEq, Eq)]
 pub struct ServerCounts {
-    /// Packets that came.
+    /// Packets received.
     pub received: u64,
-    /// Replies that were sent.
+    /// Replies sent.
     pub replied: u64,
-    /// Requests of DDT clients, and those of ITRs that were served.
+    /// Requests of DDT clients, and served requests of ITRs.
     pub clients: u64,
     pub itrs: u64,
-    /// Datagrams that were dropped, by why.
+    /// Dropped datagrams, by the reason.
     pub no_request: u64,
     pub unrecognized_afi: u64,
     pub probe: u64,
@@ -26,8 +26,8 @@ pub struct ServerCounts {
 }
 
 impl ServerCounts {
-    /// Counts a datagram that came, by what was done with it.
-    pub(crate) fn serve_one(&mut self, done: Done)
+    /// Counts a received datagram, by what was done with it.
+    pub(crate) fn serve_one(&mut self, done: ServiceResult)
         ensures { self.new ≡ with_service (with_received self.old done.replied) done.service }
     {
         self.received = one_more(self.received);
@@ -45,16 +45,16 @@ impl ServerCounts {
     }
 }
 
-/// What a resolver has done.
+/// The counts of a resolver.
 #[derive(Clone, Copy, Debug, Default, PartialEq, Eq)]
 pub struct ResolverCounts {
-    /// Requests of ITRs whose lookup has started.
+    /// Requests of ITRs that have started a lookup.
     pub lookups: u64,
-    /// Requests of ITRs that share the lookup of another one.
+    /// Requests of ITRs that share the lookup of another request.
     pub shared: u64,
-    /// Replies that reached beyond the zone by which their server was asked, and were cut to it.
+    /// Replies that covered more than the zone of their server, and were cut to it.
     pub cut: u64,
-    /// Encapsulated Control Messages that were dropped, by why.
+    /// Dropped Encapsulated Control Messages, by the reason.
     pub denied: u64,
     pub too_long: u64,
     pub no_request: u64,
@@ -68,25 +68,25 @@ pub struct ResolverCounts {
     pub source_full: u64,
     pub set_full: u64,
     pub memory: u64,
-    /// Datagrams from UDP port 4342 that were ignored, by why.
+    /// Ignored datagrams from UDP port 4342, by the reason.
     pub undecodable: u64,
     pub unknown_nonce: u64,
     pub wrong_source: u64,
     pub late: u64,
     pub not_covering: u64,
     pub no_servers: u64,
-    /// Lookups of ITRs that have ended, by their outcome.
+    /// Lookups of ITRs that have ended, by the outcome.
     pub registered: u64,
     pub not_registered: u64,
     pub holes: u64,
-    /// Lookups of ITRs that gave up, by why.
+    /// Lookups of ITRs that gave up, by the reason.
     pub no_reply: u64,
     pub looped: u64,
     pub not_authoritative: u64,
     pub exhausted: u64,
 }
 
-/// One more.
+/// The count after one more.
 pub(crate) fn one_more(count: u64) -> u64
     ensures { result ≡ plus count 1 }
 {
@@ -94,7 +94,7 @@ pub(crate) fn one_more(count: u64) -> u64
 }
 
 impl ResolverCounts {
-    /// Counts a message that was dropped.
+    /// Counts a dropped message.
     pub(crate) fn drop_one(&mut self, why: Dropped)
         ensures { self.new ≡ with_dropped self.old why }
     {
@@ -115,7 +115,7 @@ impl ResolverCounts {
         }
     }
 
-    /// Counts a request whose lookup has started.
+    /// Counts a request that has started a lookup.
     pub(crate) fn start_one(&mut self)
         ensures { self.new ≡ with_lookup self.old }
     {
@@ -136,7 +136,7 @@ impl ResolverCounts {
         self.cut = one_more(self.cut);
     }
 
-    /// Counts a datagram that was heard, if it is ignored.
+    /// Counts a datagram if it is ignored.
     pub(crate) fn hear_one(&mut self, ignored: Option<Ignored>)
         ensures { self.new ≡ with_why self.old ignored }
     {
@@ -145,7 +145,7 @@ impl ResolverCounts {
         }
     }
 
-    /// Counts a datagram that is ignored.
+    /// Counts an ignored datagram.
     fn ignore_one(&mut self, why: Ignored)
         ensures { self.new ≡ with_ignored self.old why }
     {
@@ -159,7 +159,7 @@ impl ResolverCounts {
         }
     }
 
-    /// Counts the end of a lookup.
+    /// Counts the end of a lookup, by its outcome or reason.
     pub(crate) fn end_one(&mut self, end: &Result<Outcome, Why>)
         ensures { self.new ≡ with_ended self.old end.now }
     {

@@ -1,22 +1,25 @@
-//! The rounds of a daemon: of a server over its sockets, and of a Map-Resolver between ITRs, servers and Map-Servers; what
-//! it counts; and the words that it is told.
+//! The rounds of a daemon: those of a server at its sockets, and those of a Map-Resolver between ITRs, servers and
+//! Map-Servers. Also what a daemon counts, and its control commands.
 //!
-//! In reading order: `control_word`, `counts`, `counted`, `answers`, `service`, `sending`, `server_record`, `server_round`, `itr_requests`, `admission`,
-//! `recent_requests`, `onward`, `for_log`, `gave_up`, `map_resolver`, `laws`, `statistics`.
-//! Tests: ddt_daemon_tests/resolving, onward and words.
+//! In reading order: `control_word`, `counts`, `counted_wires`, `answers`, `service`, `sending`, `log_events`,
+//! `log_queue`, `server_record`, `server_round`, `itr_requests`, `admission`, `recent_requests`, `etr_forward`,
+//! `map_resolver`, `laws`, `statistics`.
+//!
+//! Calls that return `AllocError` fail only if out of memory.
+//! Tests: ddt_daemon_tests/resolving, serving, itr_service, etr_forward and control_words.
 #![tactic(auto)]
 
 mod admission;
 mod answers;
 mod control_word;
-mod counted;
+mod counted_wires;
 mod counts;
-mod for_log;
-mod gave_up;
+mod etr_forward;
 mod itr_requests;
 mod laws;
+mod log_events;
+mod log_queue;
 mod map_resolver;
-mod onward;
 mod recent_requests;
 mod sending;
 mod server_record;
@@ -27,13 +30,13 @@ mod statistics;
 pub use admission::Dropped;
 pub use answers::{AnswerCounts, CountedAnswers};
 pub use control_word::{ControlWord, WORDS};
-pub use counted::{Counted, WireCounts};
+pub use counted_wires::{CountedWires, WireCounts};
 pub use counts::{ResolverCounts, ServerCounts};
-pub use gave_up::{GaveUp, Unrecognized};
+pub use etr_forward::{send_on, with_d};
 pub use laws::{a_map_resolver_runs, an_itr_request_goes_on_as_it_came};
+pub use log_events::{GivenUpLookup, UnrecognizedMessage};
 pub use map_resolver::MapResolver;
-pub use onward::{send_on, with_d};
 pub use server_record::ServerRecord;
-pub use server_round::{Door, serve_packet, serve_ready};
-pub use service::{Done, Service};
+pub use server_round::{ServerSocket, serve_packet, serve_ready};
+pub use service::{Service, ServiceResult};
 pub use statistics::{DaemonStatistics, ResolverStatistics, ServerStatistics, Times};

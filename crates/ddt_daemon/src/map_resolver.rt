@@ -7,15 +7,15 @@ ghost use Rattle.ddt_resolver.specs.State.{forgotten, most_pending, moved};
 ghost use Rattle.ddt_resolver.specs.Table.{IsNoneDue};
 ghost use Rattle.std.specs.Prelude.{◌≡◌, ◌⊎◌, ◌<◌, ◌≤◌, ◌++◌, ◌∷◌, ℕ, [], false, true, List, length, None, Some, IfOk, IfErr, IfSome, OnOk, OnErr};
 ghost use Rattle.std.specs.VecDeque.{deque_capacity};
-ghost use Rattle.ddt_wires.specs.declared.call.Call.{Call as ACall};
-ghost use Rattle.ddt_wires.specs.Calls.{RecordsCalls};
-ghost use Rattle.ddt_wires.specs.Turns.{AreTried, most_bytes};
+ghost use Rattle.ddt_sockets.specs.declared.wire_calls.Call.{Call as ACall};
+ghost use Rattle.ddt_sockets.specs.Calls.{RecordsCalls};
+ghost use Rattle.ddt_sockets.specs.Turns.{AreTried, most_bytes};
 ghost use Rattle.ddt_wire.specs.declared.message_type.MessageType.TheVariants.{Encapsulated};
 ghost use Rattle.ddt_wire.specs.MessageType.{is_of};
 ghost use Rattle.ddt_loop.specs.Acts.{running, AsksForItr, IsToldItr, Resends};
-ghost use Rattle.ddt_loop.specs.Askers.{opening_desk};
+ghost use Rattle.ddt_loop.specs.Requesters.{opening_desk};
 ghost use Rattle.ddt_ecm.specs.UdpHeader.{control_port};
-ghost use Rattle.ddt_daemon.specs.declared.itr_requests.Kept.{Kept as AKept};
+ghost use Rattle.ddt_daemon.specs.declared.itr_requests.WaitingRequest.{WaitingRequest as AWaitingRequest};
 ghost use Rattle.ddt_daemon.specs.Admitted.{HasRoomToWait, IsDropped, IsGranted, IsPlaced, IsRefusedPlace, IsRefusedWait};
 ghost use Rattle.ddt_daemon.specs.Goes.{AreClosed, IsSharerTold, goes_on};
 ghost use Rattle.ddt_daemon.specs.Counted.{nothing_counted, with_dropped};
@@ -25,44 +25,45 @@ ghost use Rattle.ddt_daemon.specs.Rounds.{resolving, at_moment, was_there, HasWa
 
 use crate::admission::{Admitted, Dropped, Lookup, Place, Ready, Waiter, allowed_request};
 use crate::counts::ResolverCounts;
-use crate::for_log::ForLog;
-use crate::gave_up::{GaveUp, Unrecognized, gave_up};
-use crate::itr_requests::{Kept, Waiting};
-use crate::onward::send_on;
+use crate::etr_forward::send_on;
+use crate::itr_requests::{WaitingRequest, WaitingRequests};
+use crate::log_events::{GivenUpLookup, UnrecognizedMessage, gave_up};
+use crate::log_queue::LogQueue;
 use crate::recent_requests::{Recent, RecentRequests};
 use byteorder::{BigEndian, ByteOrder};
 use ddt_cache::{Entry, Moment};
+use ddt_config::settings::Settings;
 use ddt_ecm::CONTROL_PORT;
 use ddt_foreign::{ForeignFault, plain_referral, read_foreign};
-use ddt_loop::{Ended, Hearing, RunningResolver};
+use ddt_loop::{DatagramOutcome, Ended, RunningResolver};
 use ddt_path::{Listed, Locator, LocatorSet, Prefix, Xeid};
 use ddt_resolver::{Beginning, ItrRequest, MOST_PENDING, Resolver};
-use ddt_settings::Settings;
+use ddt_sockets::{Packet, Wires};
 use ddt_trie::PrefixMap;
 use ddt_wire::MessageType;
-use ddt_wires::{Packet, Wires};
 use std::alloc::{AllocError, Global};
 
-/// How many bytes a Map-Referral has before its first record.
+/// The bytes of a Map-Referral before its first record.
 const BEFORE_RECORDS: usize = 12;
 
-/// A Map-Resolver: a resolver, the requests of ITRs that wait for its lookups, and what it has done. Its near wires lead
-/// to ITRs and to the servers that it asks, its far wires to Map-Servers, which are sent the ITRs' own requests.
+/// A Map-Resolver: a resolver, the requests of ITRs that wait for its lookups, and its counts. Its near wires lead to
+/// ITRs and to the servers that it asks. Its far wires lead to Map-Servers, to which it forwards the ITRs' own
+/// requests.
 #[derive(Drop)]
 pub struct MapResolver<M: PrefixMap<Entry>> {
     alloc: Global,
     running: RunningResolver<M>,
-    waiting: Waiting,
+    waiting: WaitingRequests,
     counts: ResolverCounts,
-    /// The requests that came lately.
+    /// The recent requests.
     recent: RecentRequests,
-    /// The lookups that gave up and aren't in the log yet.
-    gave_up: ForLog<GaveUp>,
-    /// The messages that were dropped for their AFI and aren't in the log yet.
-    unrecognized: ForLog<Unrecognized>,
+    /// The lookups that gave up and aren't logged yet.
+    gave_up: LogQueue<GivenUpLookup>,
+    /// The messages that were dropped for their AFI and aren't logged yet.
+    unrecognized: LogQueue<UnrecognizedMessage>,
 }
 
-/// How a lookup has ended, and by whose datagram.
+/// The end of a lookup, and the source of the datagram that ended it, if one did.
 #[derive(Clone, Copy, Debug)]
 struct Closing {
     me: Locator,
@@ -71,7 +72,7 @@ struct Closing {
 }
 
 impl<M: PrefixMap<Entry>> MapResolver<M> {
-    /// A Map-Resolver for which nobody waits, and which has done nothing. Fails only if out of memory.
+    /// A Map-Resolver without waiting requests, and with all counts 0.
     pub fn new(alloc: Global, resolver: Resolver<M>) -> Result<MapResolver<M>, AllocError>
         ensures running { IfOk result (λ it. it.running ≡ running resolver (opening_desk [])) }
         ensures waiting { IfOk result (λ it. it.waiting.kept.items ≡ []) }
@@ -81,16 +82,15 @@ impl<M: PrefixMap<Entry>> MapResolver<M> {
         Ok(MapResolver {
             alloc,
             running,
-            waiting: Waiting::new(alloc),
+            waiting: WaitingRequests::new(alloc),
             counts: ResolverCounts::default(),
             recent: RecentRequests::new(alloc),
-            gave_up: ForLog::new(alloc),
-            unrecognized: ForLog::new(alloc),
+            gave_up: LogQueue::new(alloc),
+            unrecognized: LogQueue::new(alloc),
         })
     }
 
-    /// Goes on with another resolver, for which nobody waits, and with its counts. Fails only if out of memory, and then
-    /// all stays as it was.
+    /// Replaces the resolver. No requests wait for the new one; the counts stay. If out of memory, nothing changes.
     pub fn renew(&mut self, resolver: Resolver<M>) -> Result<(), AllocError>
         ensures running { OnOk result (self.new.running ≡ running resolver (opening_desk [])) }
         ensures waiting { OnOk result (self.new.waiting.kept.items ≡ []) }
@@ -100,27 +100,27 @@ impl<M: PrefixMap<Entry>> MapResolver<M> {
     {
         let running = RunningResolver::new(self.alloc, resolver)?;
         self.running = running;
-        self.waiting = Waiting::new(self.alloc);
+        self.waiting = WaitingRequests::new(self.alloc);
         Ok(())
     }
 
-    /// What it has done.
+    /// The counts.
     pub fn counts(&self) -> ResolverCounts
         ensures { result ≡ self.now.counts }
     {
         self.counts
     }
 
-    /// How many requests of ITRs wait.
+    /// The number of waiting requests of ITRs.
     pub fn waiting(&self) -> usize
         ensures { result ≡ length self.now.waiting.kept.items }
     {
         self.waiting.len()
     }
 
-    /// A lookup of an ITR that gave up, which is taken off; None where none has since. Of more than 64 at once, the others
-    /// are counted: `take_missed_give_ups`.
-    pub fn take_give_up(&mut self) -> Option<GaveUp>
+    /// Removes the first event of a lookup that gave up. Of more than 64 events the others are only counted, by
+    /// `take_missed_give_ups`.
+    pub fn take_give_up(&mut self) -> Option<GivenUpLookup>
         ensures running { self.new.running ≡ self.old.running }
         ensures waiting { self.new.waiting.kept.items ≡ self.old.waiting.kept.items }
         ensures counts { self.new.counts ≡ self.old.counts }
@@ -128,7 +128,7 @@ impl<M: PrefixMap<Entry>> MapResolver<M> {
         self.gave_up.take()
     }
 
-    /// How many lookups gave up that `take_give_up` doesn't give, since this was asked last.
+    /// The number of lookups that gave up and that `take_give_up` doesn't return, since the last call.
     pub fn take_missed_give_ups(&mut self) -> u64
         ensures running { self.new.running ≡ self.old.running }
         ensures waiting { self.new.waiting.kept.items ≡ self.old.waiting.kept.items }
@@ -137,9 +137,9 @@ impl<M: PrefixMap<Entry>> MapResolver<M> {
         self.gave_up.take_missed()
     }
 
-    /// A message that was dropped for its AFI, which is taken off; None where none has been since. Of more than 64 at
-    /// once, the others are counted: `take_missed_unrecognized`.
-    pub fn take_unrecognized(&mut self) -> Option<Unrecognized>
+    /// Removes the first event of a message that was dropped for its AFI. Of more than 64 events the others are only
+    /// counted, by `take_missed_unrecognized`.
+    pub fn take_unrecognized(&mut self) -> Option<UnrecognizedMessage>
         ensures running { self.new.running ≡ self.old.running }
         ensures waiting { self.new.waiting.kept.items ≡ self.old.waiting.kept.items }
         ensures counts { self.new.counts ≡ self.old.counts }
@@ -147,7 +147,7 @@ impl<M: PrefixMap<Entry>> MapResolver<M> {
         self.unrecognized.take()
     }
 
-    /// How many messages were dropped for their AFI that `take_unrecognized` doesn't give, since this was asked last.
+    /// The number of messages dropped for their AFI that `take_unrecognized` doesn't return, since the last call.
     pub fn take_missed_unrecognized(&mut self) -> u64
         ensures running { self.new.running ≡ self.old.running }
         ensures waiting { self.new.waiting.kept.items ≡ self.old.waiting.kept.items }
@@ -163,7 +163,7 @@ impl<M: PrefixMap<Entry>> MapResolver<M> {
         self.running.resolver()
     }
 
-    /// Forgets what is remembered of a prefix, and says whether something was. Lookups go on.
+    /// Drops the cached referral of a prefix. Returns whether there was one. Pending lookups continue.
     pub fn forget(&mut self, prefix: Prefix) -> bool
         ensures running { self.new.running ≡ running (forgotten self.old.running.state prefix) self.old.running.desk }
         ensures there { result ≡ map.contains_key self.old.running.state.known.live prefix }
@@ -173,7 +173,7 @@ impl<M: PrefixMap<Entry>> MapResolver<M> {
         self.running.forget(prefix)
     }
 
-    /// The longest match that is remembered for an identifier, or the root's servers. Nothing changes but the time.
+    /// The longest match in the cache for an identifier, or the root's servers. Nothing changes but the time.
     pub fn longest(&mut self, now: Moment, x: Xeid) -> (Prefix, Entry)
         ensures found { IsFound (moved now self.old.running.state).known (xeid_path x) result.0 result.1 }
         ensures time { self.new.running ≡ at_moment now self.old.running }
@@ -183,18 +183,19 @@ impl<M: PrefixMap<Entry>> MapResolver<M> {
         self.running.longest(now, x)
     }
 
-    /// Polls the near wires once, and takes what came; whether something was there, or was lost.
+    /// Receives once from the near wires, and handles the packet. Returns whether there was a packet, or one was lost.
     ///
-    /// An Encapsulated Control Message is asked for only where its source is allowed, it is a request of an ITR of at most
-    /// 1,500 bytes that names none of the resolver's addresses and doesn't come back from where it was sent on, and the
-    /// same doesn't wait already. What the cache answers is answered at once, however many wait. Else
-    /// it shares the lookup that another ITR waits for, or starts one: fewer than 1,024 requests may wait, fewer than 128
-    /// from its address, and fewer than 256 whose lookups begin at the same referral set.
+    /// An Encapsulated Control Message is admitted if its source is allowed and it is a request of an ITR of at most
+    /// 1,500 bytes. It must name none of the resolver's addresses and not come back from where it was forwarded, and
+    /// the same request must not wait already. If the cache has the answer, the ITR gets it at once, however many
+    /// requests wait. Otherwise the request shares the lookup of another ITR or starts one. Then fewer than 1,024
+    /// requests may wait, fewer than 128 of them from its address, and fewer than 256 with lookups that begin at the
+    /// same referral set.
     ///
-    /// Any other datagram is heard where it comes from UDP port 4342, a reply that reaches beyond the zone of its server
-    /// cut to that zone. Where it ends a lookup, each ITR that waits for it is told once: the negative Map-Reply for a
-    /// hole or a site that isn't registered. The request of each whose lookup ends as registered goes on to the server of
-    /// the datagram over the far wires, once, with its bit D set.
+    /// Any other datagram is read as a reply if it comes from UDP port 4342. A reply that covers more than the zone of
+    /// its server is cut to that zone. If it ends a lookup, each waiting ITR is answered once: by the negative
+    /// Map-Reply for a hole or a site that isn't registered. If the lookup ends as registered, each waiting request is
+    /// forwarded once over the far wires to the server of the datagram, with its bit D set.
     pub fn receive<W: Wires, V: Wires>(
         &mut self,
         near: &mut W,
@@ -214,7 +215,7 @@ impl<M: PrefixMap<Entry>> MapResolver<M> {
         match near.receive(me, buffer) {
             Ok(Some(packet)) => {
                 let bytes = &buffer[..packet.len];
-                self.let_in(near, far, settings, me, now, packet, bytes);
+                self.handle_packet(near, far, settings, me, now, packet, bytes);
                 true
             }
             Ok(None) => false,
@@ -223,8 +224,8 @@ impl<M: PrefixMap<Entry>> MapResolver<M> {
         }
     }
 
-    /// Takes a packet of these bytes, or drops it.
-    fn let_in<W: Wires, V: Wires>(
+    /// Handles a packet with these bytes, or drops it.
+    fn handle_packet<W: Wires, V: Wires>(
         &mut self,
         near: &mut W,
         far: &mut V,
@@ -251,7 +252,7 @@ impl<M: PrefixMap<Entry>> MapResolver<M> {
         }
     }
 
-    /// Tells an ITR the answer that is remembered.
+    /// Sends an ITR the cached answer.
     fn tell_at_once<W: Wires>(&mut self, near: &mut W, me: Locator, ready: Ready)
         ensures told { (calls : List ACall) × RecordsCalls (W.calls near.old) calls (W.calls near.new)
             × IsToldItr me ready.outcome ready.request calls }
@@ -263,7 +264,7 @@ impl<M: PrefixMap<Entry>> MapResolver<M> {
             .tell(near, me, &ready.request, &Ok(ready.outcome));
     }
 
-    /// Counts a message from an address that is dropped, and keeps it for the log where that is due.
+    /// Counts a dropped message from an address, and queues it for the log if it was dropped for its AFI.
     fn drop_one(&mut self, from: Locator, why: Dropped)
         ensures counts { self.new.counts ≡ with_dropped self.old.counts why }
         ensures running { self.new.running ≡ self.old.running }
@@ -271,12 +272,12 @@ impl<M: PrefixMap<Entry>> MapResolver<M> {
     {
         self.counts.drop_one(why);
         if why == Dropped::UnrecognizedAfi {
-            self.unrecognized.keep(Unrecognized::Request(from));
+            self.unrecognized.keep(UnrecognizedMessage::Request(from));
         }
     }
 
-    /// What an Encapsulated Control Message of these bytes asks, or why it is dropped. Where it waits, one more has room
-    /// to.
+    /// Admits an Encapsulated Control Message with these bytes, or returns the reason why it is dropped. If it is to
+    /// wait, there is room for it.
     fn admit(
         &mut self,
         settings: &Settings,
@@ -317,7 +318,8 @@ impl<M: PrefixMap<Entry>> MapResolver<M> {
         }
     }
 
-    /// What becomes of a request for an identifier from an address, or why it is dropped. The time goes on.
+    /// How a request for an identifier from an address is answered, or the reason why it is dropped. The time advances
+    /// to `now`.
     fn place(&mut self, now: Moment, from: Locator, x: Xeid) -> Result<Place, Dropped>
         ensures moved { self.new.running ≡ at_moment now self.old.running }
         ensures placed { IfOk result (IsPlaced self.old.waiting.kept.items (at_moment now self.old.running) from x) }
@@ -345,8 +347,8 @@ impl<M: PrefixMap<Entry>> MapResolver<M> {
         Ok(Place::Waits(Lookup::Own(servers)))
     }
 
-    /// A copy of the bytes of a request that is to wait, and room for it; or why it is dropped: it comes back from where
-    /// it was sent on, or there is no memory.
+    /// A copy of the bytes of a request that is to wait, and room for it. Refuses a request that comes back from where
+    /// it was forwarded, and one for which there is no memory.
     fn waiter(
         &mut self,
         now: Moment,
@@ -371,7 +373,7 @@ impl<M: PrefixMap<Entry>> MapResolver<M> {
         }
     }
 
-    /// A copy of a request's bytes, and room for one more that waits. Fails only if out of memory.
+    /// A copy of a request's bytes, and room for one more waiting request.
     fn room_for(&mut self, bytes: &[u8]) -> Result<Listed<u8>, AllocError>
         ensures bytes { IfOk result (λ copy. copy ≡ bytes.now) }
         ensures room { OnOk result (length self.new.waiting.kept.items < deque_capacity self.new.waiting.kept) }
@@ -384,7 +386,7 @@ impl<M: PrefixMap<Entry>> MapResolver<M> {
         Ok(Listed::of(bytes))
     }
 
-    /// Asks for a request, or has it share a lookup. It is kept where it waits.
+    /// Starts a lookup for a request, or has it share one. A request that waits is stored.
     fn ask<W: Wires>(&mut self, near: &mut W, me: Locator, now: Moment, waiter: Waiter)
         requires room { length self.old.waiting.kept.items < deque_capacity self.old.waiting.kept }
         ensures { (calls : List ACall) × RecordsCalls (W.calls near.old) calls (W.calls near.new)
@@ -401,7 +403,7 @@ impl<M: PrefixMap<Entry>> MapResolver<M> {
         }
     }
 
-    /// Asks for a request. It is kept under the ticket of the lookup that starts for it, if one does.
+    /// Starts a lookup for a request. The request is stored under the lookup's ticket, if the lookup has started.
     fn begin<W: Wires>(
         &mut self,
         near: &mut W,
@@ -424,15 +426,16 @@ impl<M: PrefixMap<Entry>> MapResolver<M> {
         }
     }
 
-    /// A request waits for the lookup of a ticket, which it has started at these servers, or which it shares.
+    /// Stores a request that waits for the lookup of a ticket. `begins` has the servers at which its own lookup began;
+    /// None if it shares the lookup.
     fn keep(&mut self, ticket: u64, begins: Option<LocatorSet>, waiter: Waiter)
         requires room { length self.old.waiting.kept.items < deque_capacity self.old.waiting.kept }
-        ensures kept { (k : AKept) × (self.new.waiting.kept.items ≡ self.old.waiting.kept.items ++ k ∷ [])
+        ensures kept { (k : AWaitingRequest) × (self.new.waiting.kept.items ≡ self.old.waiting.kept.items ++ k ∷ [])
             × (k.ticket ≡ ticket) × WaitsAs begins waiter.from waiter.bytes waiter.request k }
         ensures running { self.new.running ≡ self.old.running }
         ensures counts { self.new.counts ≡ self.old.counts }
     {
-        self.waiting.add(Kept {
+        self.waiting.add(WaitingRequest {
             ticket,
             request: waiter.request,
             from: waiter.from,
@@ -441,7 +444,7 @@ impl<M: PrefixMap<Entry>> MapResolver<M> {
         });
     }
 
-    /// Hears a packet of these bytes, which are no Encapsulated Control Message.
+    /// Handles a packet whose bytes are no Encapsulated Control Message.
     fn hear<W: Wires, V: Wires>(
         &mut self,
         near: &mut W,
@@ -469,9 +472,9 @@ impl<M: PrefixMap<Entry>> MapResolver<M> {
         }
     }
 
-    /// What is heard in the place of a datagram from an address: None for the datagram as it came, or what it says of the
-    /// identifier that its nonce asks for, in the one spelling. Fails only if out of memory, for a datagram whose nonce
-    /// asks for one.
+    /// The datagram to handle instead of one from an address: what it says of the identifier that its nonce asks for,
+    /// in the core's spelling. None if the datagram is handled as it is. Runs out of memory only for a datagram whose
+    /// nonce asks for an identifier.
     fn spelled(&mut self, from: Locator, bytes: &[u8]) -> Result<Option<Listed<u8>>, AllocError>
         ensures spelled { IfOk result (IsSpelledAs self.old.running.state bytes.now) }
         ensures wanted { OnErr result ((t : ℕ) × (l : APending) × IsAskedFor self.old.running.state bytes.now t l) }
@@ -494,18 +497,19 @@ impl<M: PrefixMap<Entry>> MapResolver<M> {
         Ok(plain)
     }
 
-    /// Keeps a Map-Referral of which nothing is taken for the log, if it has an AFI that is unrecognized.
+    /// Queues an unread Map-Referral for the log, if it has an unrecognized AFI.
     fn note_unrecognized(&mut self, from: Locator, bytes: &[u8], asked: Xeid)
         ensures running { self.new.running ≡ self.old.running }
         ensures waiting { self.new.waiting.kept.items ≡ self.old.waiting.kept.items }
         ensures counts { self.new.counts ≡ self.old.counts }
     {
         if let Ok(Err(ForeignFault::UnrecognizedAfi)) = read_foreign(self.alloc, bytes, asked) {
-            self.unrecognized.keep(Unrecognized::Referral(from));
+            self.unrecognized.keep(UnrecognizedMessage::Referral(from));
         }
     }
 
-    /// Hears a datagram of these bytes from UDP port 4342, cut to the zone of its server where it reaches beyond it.
+    /// Handles a datagram with these bytes from UDP port 4342. If it covers more than the zone of its server, it is cut
+    /// to that zone.
     fn hear_spelled<W: Wires, V: Wires>(
         &mut self,
         near: &mut W,
@@ -534,8 +538,8 @@ impl<M: PrefixMap<Entry>> MapResolver<M> {
         }
     }
 
-    /// Hears a datagram of these bytes from UDP port 4342. Where it ends the lookup of an ITR, all that wait for it are
-    /// told, or their requests go on.
+    /// Has the resolver handle a datagram with these bytes from UDP port 4342. If it ends the lookup of an ITR, all
+    /// waiting requests are answered or forwarded.
     fn hear_reply<W: Wires, V: Wires>(
         &mut self,
         near: &mut W,
@@ -553,7 +557,7 @@ impl<M: PrefixMap<Entry>> MapResolver<M> {
             (resolving self.old.running self.old.waiting.kept.items self.old.counts)
             calls onward (resolving self.new.running self.new.waiting.kept.items self.new.counts) }
     {
-        let Hearing { ended, ignored } = self.running.hear(near, me, now, packet, heard);
+        let DatagramOutcome { ended, ignored } = self.running.hear(near, me, now, packet, heard);
         self.counts.hear_one(ignored);
         if let Some(ended) = ended {
             self.counts.end_one(&ended.end);
@@ -562,7 +566,7 @@ impl<M: PrefixMap<Entry>> MapResolver<M> {
         }
     }
 
-    /// All that wait for a lookup which has ended are told, or their requests go on.
+    /// Answers or forwards all requests that wait for an ended lookup.
     fn close<W: Wires, V: Wires>(&mut self, near: &mut W, far: &mut V, closing: &Closing)
         ensures closed { (calls onward : List ACall) × RecordsCalls (W.calls near.old) calls (W.calls near.new)
             × RecordsCalls (V.calls far.old) onward (V.calls far.new)
@@ -578,8 +582,8 @@ impl<M: PrefixMap<Entry>> MapResolver<M> {
         }
     }
 
-    /// Keeps the lookup that a request has started for the log, if it gave up.
-    fn note_give_up(&mut self, closing: &Closing, kept: &Kept)
+    /// Queues the lookup that a request has started for the log, if the lookup gave up.
+    fn note_give_up(&mut self, closing: &Closing, kept: &WaitingRequest)
         ensures running { self.new.running ≡ self.old.running }
         ensures waiting { self.new.waiting.kept.items ≡ self.old.waiting.kept.items }
         ensures counts { self.new.counts ≡ self.old.counts }
@@ -589,8 +593,8 @@ impl<M: PrefixMap<Entry>> MapResolver<M> {
         }
     }
 
-    /// Tells an ITR the end of its lookup, where it shares that of another; the other one is told already.
-    fn tell_sharer<W: Wires>(&mut self, near: &mut W, closing: &Closing, kept: &Kept)
+    /// Sends the end of a lookup to an ITR that shares it. The ITR that started the lookup has been answered already.
+    fn tell_sharer<W: Wires>(&mut self, near: &mut W, closing: &Closing, kept: &WaitingRequest)
         ensures told { (calls : List ACall) × RecordsCalls (W.calls near.old) calls (W.calls near.new)
             × IsSharerTold closing.now.me closing.now.ended.end kept.now.begins kept.now calls }
         ensures running { self.new.running ≡ self.old.running }
@@ -603,7 +607,7 @@ impl<M: PrefixMap<Entry>> MapResolver<M> {
         }
     }
 
-    /// Ticks once: a lookup whose deadline has come goes on or ends. Nothing goes on over the far wires.
+    /// Ticks once: a lookup whose deadline has passed is retried or ends. Nothing is sent over the far wires.
     pub fn tick<W: Wires, V: Wires>(&mut self, near: &mut W, far: &mut V, me: Locator, now: Moment)
         ensures { (calls onward : List ACall) × RecordsCalls (W.calls near.old) calls (W.calls near.new)
             × RecordsCalls (V.calls far.old) onward (V.calls far.new)
@@ -618,7 +622,7 @@ impl<M: PrefixMap<Entry>> MapResolver<M> {
         }
     }
 
-    /// Lets the pending lookup whose last request has this nonce go on or end at once, as by a tick that finds it due.
+    /// Retries or ends at once the pending lookup whose last request has this nonce, as a tick after its deadline does.
     pub fn hasten<W: Wires, V: Wires>(
         &mut self,
         near: &mut W,
@@ -640,7 +644,7 @@ impl<M: PrefixMap<Entry>> MapResolver<M> {
         }
     }
 
-    /// Sends the last request of the pending lookup that has this nonce again, as it was.
+    /// Sends the last request of the pending lookup again, unchanged, if it has this nonce.
     pub fn resend<W: Wires>(&self, near: &mut W, me: Locator, nonce: u64)
         ensures { (calls : List ACall) × RecordsCalls (W.calls near.old) calls (W.calls near.new)
             × Resends me nonce self.now.running.state calls }
@@ -648,7 +652,7 @@ impl<M: PrefixMap<Entry>> MapResolver<M> {
         self.running.resend(near, me, nonce);
     }
 
-    /// Ticks until no lookup is due, but not more often than lookups can be pending.
+    /// Ticks until no lookup is due, at most as often as lookups can be pending.
     pub fn tick_due<W: Wires, V: Wires>(
         &mut self,
         near: &mut W,
@@ -670,7 +674,7 @@ impl<M: PrefixMap<Entry>> MapResolver<M> {
         }
     }
 
-    /// Whether the deadline of a lookup has come.
+    /// Whether the deadline of a lookup has passed.
     fn is_due(&self, now: Moment) -> bool
         ensures { result ≡ false → IsNoneDue self.now.running.state.pending now }
     {
@@ -681,7 +685,7 @@ impl<M: PrefixMap<Entry>> MapResolver<M> {
     }
 }
 
-/// The request of an ITR goes on to the server whose datagram has ended its lookup, if one did, and as registered.
+/// Forwards the request of an ITR to the server whose datagram has ended its lookup as registered, if one has.
 fn send_kept<V: Wires>(far: &mut V, closing: &Closing, bytes: Listed<u8>)
     ensures { (onward : List ACall) × RecordsCalls (V.calls far.old) onward (V.calls far.new)
         × AreTried closing.now.me (goes_on closing.now.by closing.now.ended.end bytes) onward }

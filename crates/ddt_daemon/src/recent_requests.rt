@@ -1,6 +1,6 @@
-//! The requests of ITRs that came lately. One that comes back from another address was sent on there: a Map-Server has
-//! given it back to the resolver, and would do so without end. No answer rests on it: a request may be dropped at any
-//! time.
+//! The recent requests of ITRs, to detect forwarding loops. A request that comes back from another address was
+//! forwarded there: a Map-Server has sent it back to the resolver, and would do so without end. No answer depends on
+//! this: a request may be dropped at any time.
 
 ghost use Rattle.std.specs.Prelude.{◌≡◌, true};
 ghost use Rattle.ddt_daemon.specs.Recent.{comes_back, HasBefore};
@@ -10,19 +10,19 @@ use ddt_path::Locator;
 use ddt_resolver::ItrRequest;
 use std::alloc::Global;
 
-/// So many requests are remembered at most. One takes the place of another whose nonce has the same remainder.
+/// The most requests remembered. One replaces another whose nonce has the same remainder.
 const MOST_REQUESTS: usize = 4096;
 
-/// For so many milliseconds a request is remembered.
+/// The milliseconds for which a request is remembered.
 const MEMORY: u64 = 4000;
 
-/// A request that came.
+/// A received request.
 #[derive(Clone, Copy, Debug)]
 pub(crate) struct Recent {
     pub(crate) request: ItrRequest,
-    /// The address that it came from.
+    /// The source address.
     pub(crate) from: Locator,
-    /// When it came, in milliseconds.
+    /// The moment of its arrival, in milliseconds.
     pub(crate) at: u64,
 }
 
@@ -37,22 +37,22 @@ impl Recent {
     }
 }
 
-/// The requests that came lately, each in the place of its nonce.
+/// The recent requests, each in the place of its nonce.
 #[derive(Debug, Drop)]
 pub(crate) struct RecentRequests {
     places: Vec<Option<Recent>>,
 }
 
 impl RecentRequests {
-    /// No request came yet.
+    /// No requests yet.
     pub(crate) fn new(alloc: Global) -> RecentRequests {
         RecentRequests {
             places: Vec::new(alloc),
         }
     }
 
-    /// Whether a request comes back from another address than it came from less than 4,000 milliseconds ago. If not, it
-    /// is remembered.
+    /// Whether the same request came from another address less than 4,000 milliseconds ago. If not, this one is
+    /// remembered.
     pub(crate) fn takes_back(&mut self, came: Recent) -> bool
         ensures back { result ≡ true → HasBefore self.old.places.items came }
     {
@@ -67,7 +67,7 @@ impl RecentRequests {
         false
     }
 
-    /// Remembers a request in a place. Where there is no memory for it, it isn't remembered.
+    /// Remembers a request in a place, unless there is no memory for it.
     fn remember(&mut self, place: usize, came: Recent) {
         for _place in self.places.len()..MOST_REQUESTS {
             if self.places.push(None).is_err() {

@@ -1,11 +1,11 @@
-//! What a server sends for a request: to a DDT client a Map-Referral, to an ITR the negative Map-Reply, and the request
-//! itself to an ETR (RFC 8111, sections 7.1 and 7.2; RFC 9301, section 8.3).
+//! The datagrams that a server sends for a request: a Map-Referral to a DDT client, a negative Map-Reply to an ITR, and
+//! the request itself to an ETR (RFC 8111, sections 7.1 and 7.2; RFC 9301, section 8.3).
 
 ghost use Rattle.std.specs.Prelude.{◌≡◌, ◌++◌, List, IfOk};
 ghost use Rattle.ddt_node.specs.Server.{without_d as without_d_of};
-ghost use Rattle.ddt_wires.specs.declared.call.Call.{Call as ACall};
-ghost use Rattle.ddt_wires.specs.Calls.{RecordsCalls};
-ghost use Rattle.ddt_wires.specs.Turns.{AreTried, first_went_out};
+ghost use Rattle.ddt_sockets.specs.declared.wire_calls.Call.{Call as ACall};
+ghost use Rattle.ddt_sockets.specs.Calls.{RecordsCalls};
+ghost use Rattle.ddt_sockets.specs.Turns.{AreTried, first_went_out};
 ghost use Rattle.ddt_resolver.specs.Records.{negative_answer};
 ghost use Rattle.ddt_loop.specs.Acts.{sent_if};
 ghost use Rattle.ddt_daemon.specs.declared.service.Service.TheVariants.{Client, Itr};
@@ -17,25 +17,25 @@ use ddt_foreign::ForeignRequest;
 use ddt_node::Server;
 use ddt_path::{Action, Listed, Locator, Outcome, ReferralRecord};
 use ddt_resolver::{Front, ItrRequest, Outgoing};
+use ddt_sockets::{Packet, Wires};
 use ddt_trie::PrefixMap;
 use ddt_wire::write_referral;
-use ddt_wires::{Packet, Wires};
 use std::alloc::{AllocError, Global};
 
-/// How many numbers a byte's bits up to S have together with D, and how many those after D.
+/// The weights of bit S and bit D in the first byte of an Encapsulated Control Message. The bits after D count up to 3.
 const S_PLACE: u8 = 8;
 
 const D_PLACE: u8 = 4;
 
-/// What a server sends for a request.
+/// The datagrams that a server sends for a request.
 #[derive(Debug, Drop)]
 pub(crate) struct Sending {
     pub(crate) reply: Option<Outgoing>,
-    /// The request, on its way to an ETR.
+    /// The request, forwarded to an ETR.
     pub(crate) onward: Option<Outgoing>,
 }
 
-/// What a DDT client is sent, and what goes on for it. Fails only if out of memory.
+/// The Map-Referral to a DDT client, and its request for an ETR if the site is registered.
 pub(crate) fn to_client<M: PrefixMap<u32>>(
     alloc: Global,
     server: &Server<M>,
@@ -58,7 +58,7 @@ pub(crate) fn to_client<M: PrefixMap<u32>>(
     })
 }
 
-/// What an ITR is sent, and what goes on for it. Fails only if out of memory.
+/// The negative Map-Reply to an ITR, or its request for an ETR.
 pub(crate) fn to_itr<M: PrefixMap<u32>>(
     alloc: Global,
     server: &Server<M>,
@@ -70,14 +70,14 @@ pub(crate) fn to_itr<M: PrefixMap<u32>>(
     ensures onward { IfOk result (λ s. sent_if s.onward ≡ onward_for server.now bytes.now request.now Itr) }
 {
     let x = request.xeid();
-    let own = server.config().locators.as_slice();
+    let own = server.locators().as_slice();
     Ok(Sending {
         reply: negative_reply(alloc, request, &server.answer(x))?,
         onward: as_it_came_to(alloc, own, server.etr(x), bytes)?,
     })
 }
 
-/// The outcome of a record that says that nothing is there.
+/// The outcome of a negative record: a hole, or a site that isn't registered. None for other records.
 fn negative_outcome(record: &ReferralRecord) -> Option<Outcome>
     ensures { result ≡ negative_answer «record».now.action «record».now.prefix «record».now.servers }
 {
@@ -89,7 +89,7 @@ fn negative_outcome(record: &ReferralRecord) -> Option<Outcome>
     }
 }
 
-/// The negative Map-Reply to an ITR that wants one, where a record says that nothing is there.
+/// The negative Map-Reply for a negative record, to an ITR that wants a reply.
 fn negative_reply(
     alloc: Global,
     request: &ForeignRequest<'_>,
@@ -112,7 +112,7 @@ fn negative_reply(
     Front::itr_reply(alloc, &outcome, &asked)
 }
 
-/// An ITR's request on its way to an ETR, as it came, if there is an ETR and it is none of the server's own locators.
+/// An ITR's request to an ETR, unchanged, if there is an ETR that isn't one of the server's own locators.
 fn as_it_came_to(
     alloc: Global,
     own: &[Locator],
@@ -137,7 +137,7 @@ fn as_it_came_to(
     }
 }
 
-/// A DDT client's request on its way to an ETR, with the bit D clear, if there is an ETR.
+/// A DDT client's request to an ETR, with the bit D clear, if there is an ETR.
 fn without_d_to(
     alloc: Global,
     etr: Option<Locator>,
@@ -158,7 +158,7 @@ fn without_d_to(
     }
 }
 
-/// A datagram with the bit D of an Encapsulated Control Message clear.
+/// The datagram with the bit D of an Encapsulated Control Message clear.
 fn without_d(alloc: Global, request: &[u8]) -> Result<Vec<u8>, AllocError>
     ensures { IfOk result (λ bytes. bytes.items ≡ without_d_of request.now) }
 {
@@ -170,7 +170,7 @@ fn without_d(alloc: Global, request: &[u8]) -> Result<Vec<u8>, AllocError>
     Ok(bytes)
 }
 
-/// Tries what is to be sent, the reply first; whether a reply was sent without a fault.
+/// Tries to send all datagrams, the reply first. Returns whether a reply was sent without a fault.
 pub(crate) fn send_all<W: Wires>(wires: &mut W, at: Locator, sending: &Sending) -> bool
     ensures { (tries : List ACall) × RecordsCalls (W.calls wires.old) tries (W.calls wires.new)
         × AreTried at (sent_if sending.now.reply ++ sent_if sending.now.onward) tries }
@@ -180,7 +180,7 @@ pub(crate) fn send_all<W: Wires>(wires: &mut W, at: Locator, sending: &Sending) 
     replied
 }
 
-/// Tries a datagram, if there is one; whether it was sent without a fault.
+/// Tries to send a datagram, if there is one. Returns whether it was sent without a fault.
 fn send_one<W: Wires>(wires: &mut W, at: Locator, datagram: &Option<Outgoing>) -> bool
     ensures { (tries : List ACall) × RecordsCalls (W.calls wires.old) tries (W.calls wires.new)
         × AreTried at (sent_if datagram.now) tries × (result ≡ first_went_out tries) }

@@ -1,45 +1,45 @@
 //! The round of a server at one of its sockets.
 
 ghost use Rattle.std.specs.Prelude.{◌≡◌, ◌⊎◌, ◌+◌, ◌≤◌, ◌∷◌, ℕ, List, length, Some, Ok, true, false};
-ghost use Rattle.ddt_wires.specs.declared.call.Call.{Call as ACall};
-ghost use Rattle.ddt_wires.specs.declared.call.Call.TheVariants.{Received};
-ghost use Rattle.ddt_wires.specs.Calls.{RecordsCalls};
-ghost use Rattle.ddt_wires.specs.Turns.{most_bytes, is_received};
+ghost use Rattle.ddt_sockets.specs.declared.wire_calls.Call.{Call as ACall};
+ghost use Rattle.ddt_sockets.specs.declared.wire_calls.Call.TheVariants.{Received};
+ghost use Rattle.ddt_sockets.specs.Calls.{RecordsCalls};
+ghost use Rattle.ddt_sockets.specs.Turns.{most_bytes, is_received};
 ghost use Rattle.ddt_foreign.specs.Request.{request_in};
 ghost use Rattle.ddt_daemon.specs.ServerTurns.{IsTurn, AreTurns};
 
 use crate::sending::{send_all, to_client, to_itr};
 use crate::server_record::ServerRecord;
-use crate::service::{Done, Service, service_for};
+use crate::service::{Service, ServiceResult, service_for};
+use ddt_config::settings::ServerSettings;
 use ddt_foreign::{ForeignRequest, ForeignRequestFault, read_foreign_request};
 use ddt_node::Server;
 use ddt_path::Locator;
-use ddt_settings::ServerSettings;
+use ddt_sockets::{Packet, Wires};
 use ddt_trie::PrefixMap;
-use ddt_wires::{Packet, Wires};
 use std::alloc::Global;
 
-/// A socket of a server, and whom it answers there.
+/// A socket of a server, with the settings that say which ITRs it answers.
 #[derive(Clone, Copy, Debug)]
-pub struct Door<'a> {
+pub struct ServerSocket<'a> {
     pub alloc: Global,
     /// The socket's address.
     pub at: Locator,
     pub settings: &'a ServerSettings,
 }
 
-/// Takes turns of a server at a socket, at most so many, and none after one that is given no packet; how many packets it
-/// was given. Each turn calls `receive` once.
+/// Serves at most `most` turns at a socket, and none after a turn without a packet. Returns the number of packets
+/// received. Each turn calls `receive` once.
 ///
-/// A DDT client's request is answered where it came from by a Map-Referral, and goes on to the first ETR of a site that
-/// is registered, with the bit D clear (RFC 8111, sections 7.1 and 7.2). An ITR asks with that bit clear: a Map-Server
-/// that allows its address sends its request on as it came, but never to a locator of its own group, and answers a hole,
-/// or a site that isn't registered, by the negative Map-Reply (RFC 9301, section 8.3). Requests are read as `ddt_foreign`
-/// reads them. A probe is dropped, and so is whatever isn't read.
+/// A DDT client's request is answered by a Map-Referral to its source. For a registered site, it is also forwarded to
+/// the first ETR, with the bit D clear (RFC 8111, sections 7.1 and 7.2). An ITR's request has that bit clear. A
+/// Map-Server that allows its source forwards it unchanged, but never to a locator of the own group. For a hole or a
+/// site that isn't registered, it sends the negative Map-Reply (RFC 9301, section 8.3). Requests are read as
+/// `ddt_foreign` reads them. Probes and unreadable datagrams are dropped.
 pub fn serve_ready<W: Wires, M: PrefixMap<u32>>(
     wires: &mut W,
     server: &Server<M>,
-    door: &Door<'_>,
+    door: &ServerSocket<'_>,
     most: u32,
     buffer: &mut [u8],
     done: &mut ServerRecord,
@@ -62,11 +62,11 @@ pub fn serve_ready<W: Wires, M: PrefixMap<u32>>(
     received
 }
 
-/// One turn; whether it was given a packet.
+/// Serves one turn. Returns whether it received a packet.
 fn serve_turn<W: Wires, M: PrefixMap<u32>>(
     wires: &mut W,
     server: &Server<M>,
-    door: &Door<'_>,
+    door: &ServerSocket<'_>,
     buffer: &mut [u8],
     done: &mut ServerRecord,
 ) -> bool
@@ -82,62 +82,64 @@ fn serve_turn<W: Wires, M: PrefixMap<u32>>(
             true
         }
         Ok(None) => false,
-        // One datagram is lost, and the next round goes on.
+        // One datagram is lost; the next round continues.
         Err(_fault) => false,
     }
 }
 
-/// Tries what the server sends for a packet of these bytes that came to the door, or nothing if out of memory; what was
-/// done with it.
+/// Handles a packet with these bytes that came to the socket, and tries to send the answers; nothing if out of memory.
+/// Returns what was done with it.
 pub fn serve_packet<W: Wires, M: PrefixMap<u32>>(
     wires: &mut W,
     server: &Server<M>,
-    door: &Door<'_>,
+    door: &ServerSocket<'_>,
     packet: Packet,
     bytes: &[u8],
-) -> Done
+) -> ServiceResult
     ensures { (tries : List ACall) × RecordsCalls (W.calls wires.old) tries (W.calls wires.new)
         × IsTurn server.now door.now.settings.now door.now.at
         (Received door.now.at most_bytes (Ok (Some packet)) bytes.now ∷ tries) }
 {
     match read_foreign_request(bytes) {
         Ok(request) => serve_request(wires, server, door, packet, &request, bytes),
-        Err(ForeignRequestFault::UnrecognizedAfi) => Done::dropped(Service::UnrecognizedAfi),
-        Err(_fault) => Done::dropped(Service::NoRequest),
+        Err(ForeignRequestFault::UnrecognizedAfi) => ServiceResult::dropped(
+            Service::UnrecognizedAfi,
+        ),
+        Err(_fault) => ServiceResult::dropped(Service::NoRequest),
     }
 }
 
-/// Tries what the server sends for a request that came in a packet of these bytes, or nothing if out of memory.
+/// Tries to send the answers to a request in a packet with these bytes; nothing if out of memory.
 fn serve_request<W: Wires, M: PrefixMap<u32>>(
     wires: &mut W,
     server: &Server<M>,
-    door: &Door<'_>,
+    door: &ServerSocket<'_>,
     packet: Packet,
     request: &ForeignRequest<'_>,
     bytes: &[u8],
-) -> Done
+) -> ServiceResult
     requires { request_in bytes.now ≡ Ok request.now }
     ensures { (tries : List ACall) × RecordsCalls (W.calls wires.old) tries (W.calls wires.new)
         × IsTurn server.now door.now.settings.now door.now.at
         (Received door.now.at most_bytes (Ok (Some packet)) bytes.now ∷ tries) }
 {
-    let service = service_for(server.config().role, door.settings, packet.from, request);
+    let service = service_for(server.role(), door.settings, packet.from, request);
     match service {
         Service::Client => match to_client(door.alloc, server, packet, request, bytes) {
-            Ok(sending) => Done {
+            Ok(sending) => ServiceResult {
                 service,
                 replied: send_all(wires, door.at, &sending),
             },
             // A request is lost.
-            Err(_refused) => Done::dropped(service),
+            Err(_refused) => ServiceResult::dropped(service),
         },
         Service::Itr => match to_itr(door.alloc, server, packet, request, bytes) {
-            Ok(sending) => Done {
+            Ok(sending) => ServiceResult {
                 service,
                 replied: send_all(wires, door.at, &sending),
             },
-            Err(_refused) => Done::dropped(service),
+            Err(_refused) => ServiceResult::dropped(service),
         },
-        _ => Done::dropped(service),
+        _ => ServiceResult::dropped(service),
     }
 }

@@ -1,43 +1,43 @@
-//! Whom a server answers: DDT clients, and where it is a Map-Server, the ITRs that it allows (RFC 8111, section 7; RFC
-//! 9301, sections 5, 5.2 and 8.3).
+//! The clients that a server answers: DDT clients, and if it is a Map-Server, the ITRs that it allows (RFC 8111,
+//! section 7; RFC 9301, sections 5, 5.2 and 8.3).
 
 ghost use Rattle.std.specs.Prelude.{◌≡◌};
 ghost use Rattle.ddt_foreign.specs.Request.{request_in};
 ghost use Rattle.ddt_daemon.specs.ServerTurns.{is_map_server, service_for as service_for_of};
 
+use ddt_config::settings::ServerSettings;
 use ddt_foreign::ForeignRequest;
 use ddt_path::{Locator, Role};
-use ddt_settings::ServerSettings;
 
-/// Whom a datagram asks for, or why it is dropped.
+/// The kind of client whose request a datagram is, or the reason why it is dropped.
 #[derive(Clone, Copy, Debug, PartialEq, Eq)]
 pub enum Service {
-    /// Dropped: it is no request.
+    /// Dropped: it isn't a request.
     NoRequest,
     /// Dropped: it has an AFI that RFC 9301, section 5, calls unrecognized.
     UnrecognizedAfi,
     /// Dropped: it probes an RLOC (RFC 9301, section 5.2).
     Probe,
-    /// Dropped: an ITR asks, and this is no Map-Server, or its address isn't allowed.
+    /// Dropped: it is an ITR's, and this isn't a Map-Server, or the ITR's address isn't allowed.
     Denied,
-    /// A DDT client asks.
+    /// A request of a DDT client.
     Client,
-    /// An ITR asks.
+    /// A request of an ITR.
     Itr,
 }
 
-/// What was done with a datagram.
+/// The result of serving a datagram.
 #[derive(Clone, Copy, Debug, PartialEq, Eq)]
-pub struct Done {
+pub struct ServiceResult {
     pub service: Service,
     /// Whether a reply was sent without a fault.
     pub replied: bool,
 }
 
-impl Done {
-    /// Nothing was sent.
-    pub(crate) fn dropped(service: Service) -> Done {
-        Done {
+impl ServiceResult {
+    /// A datagram for which nothing was sent.
+    pub(crate) fn dropped(service: Service) -> ServiceResult {
+        ServiceResult {
             service,
             replied: false,
         }
@@ -54,7 +54,7 @@ fn is_server_of_itrs(role: Role) -> bool
     }
 }
 
-/// Whom a request from an address asks for, or why it is dropped.
+/// The kind of client of a request from an address, or the reason why it is dropped.
 pub(crate) fn service_for(
     role: Role,
     settings: &ServerSettings,

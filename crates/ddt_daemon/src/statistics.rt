@@ -1,16 +1,16 @@
-//! What a daemon tells of its counts: lines `name=value`.
+//! The statistics of a daemon, printed as lines `name=value`.
 
 use crate::answers::AnswerCounts;
-use crate::counted::WireCounts;
+use crate::counted_wires::WireCounts;
 use crate::counts::{ResolverCounts, ServerCounts};
 use std::fmt;
 
-/// When things were, in seconds since 1970.
+/// The times of a daemon, in seconds since 1970.
 #[derive(Clone, Copy, Debug, Default, PartialEq, Eq)]
 pub struct Times {
-    /// When the daemon started.
+    /// The start of the daemon.
     pub start: u64,
-    /// When it last took up its configuration or its settings.
+    /// The last reload of the configuration or the settings.
     pub reload: u64,
 }
 
@@ -24,25 +24,25 @@ impl fmt::Display for Times {
     }
 }
 
-/// What each daemon tells.
+/// The statistics of either role.
 #[derive(Clone, Copy, Debug, Default, PartialEq, Eq)]
 pub struct DaemonStatistics {
     pub times: Times,
-    /// Files that were refused at a reload.
+    /// Reloads that were refused.
     pub refused: u64,
-    /// Lines of the log that were lost.
+    /// Lost lines of the log.
     pub unlogged: u64,
 }
 
 impl DaemonStatistics {
-    /// Writes what was refused and lost.
+    /// Writes the counts of refused reloads and lost lines.
     fn write_losses<W: fmt::Write>(&self, f: &mut fmt::Formatter<W>) -> fmt::Result {
         write!(f, "num.reload.refused={}\n", self.refused)?;
         write!(f, "num.log.lost={}\n", self.unlogged)
     }
 }
 
-/// What a server tells.
+/// The statistics of a server.
 #[derive(Clone, Copy, Debug, Default, PartialEq, Eq)]
 pub struct ServerStatistics {
     pub daemon: DaemonStatistics,
@@ -60,7 +60,7 @@ pub struct ServerStatistics {
 }
 
 impl ServerStatistics {
-    /// How many Encapsulated Control Messages came that are no request.
+    /// The number of received Encapsulated Control Messages that aren't requests.
     fn no_request(&self) -> u64 {
         self.counts
             .no_request
@@ -112,26 +112,26 @@ impl fmt::Display for ServerStatistics {
     }
 }
 
-/// What a resolver tells.
+/// The statistics of a resolver.
 #[derive(Clone, Copy, Debug, Default, PartialEq, Eq)]
 pub struct ResolverStatistics {
     pub daemon: DaemonStatistics,
     pub counts: ResolverCounts,
     pub near: WireCounts,
     pub far: WireCounts,
-    /// Addresses at which it listens.
+    /// Addresses where it listens.
     pub sockets: u64,
     /// Lookups that are pending.
     pub pending: u64,
-    /// Requests of ITRs that wait.
+    /// Waiting requests of ITRs.
     pub waiting: u64,
-    /// Entries of the cache.
+    /// Cached referrals.
     pub remembered: u64,
-    /// Datagrams that came to a socket where their sort may not come in.
+    /// Datagrams dropped at a socket that doesn't take their kind.
     pub strays: u64,
-    /// Map-Referrals that are the reply to no outstanding request.
+    /// Map-Referrals that don't reply to an outstanding request.
     pub unasked: u64,
-    /// Servers that are silent.
+    /// Silent servers.
     pub silent: u64,
 }
 

@@ -1,4 +1,4 @@
-//! What every test asserts by: each is proved once, and a call of it costs a third of an assertion in its place.
+//! The assertions of all tests. Each is proved once, and a call costs a third of an assertion in its place.
 
 use std::fmt::Debug;
 use std::process::Abort;

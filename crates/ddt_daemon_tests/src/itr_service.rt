@@ -1,16 +1,16 @@
-//! A Map-Server that answers ITRs: what it sends for each request, and for whose.
+//! A Map-Server that answers ITRs: what it sends for each request, and to whom.
 
 use crate::comparison::same;
 use ddt_config::from_toml;
-use ddt_daemon::{Door, ServerRecord, serve_ready};
+use ddt_config::settings::{ServerSettings, parse_rloc_prefix};
+use ddt_daemon::{ServerRecord, ServerSocket, serve_ready};
 use ddt_ecm::{CONTROL_PORT, write_request};
 use ddt_examples::configurations::EAST;
 use ddt_node::{Server, has_room_for};
 use ddt_path::{Listed, Locator};
-use ddt_settings::{ServerSettings, parse_rloc_prefix};
+use ddt_sockets::{Call, MOST_BYTES, WaitingDatagram, WiresInMemory};
 use ddt_text::parse_xeid;
 use ddt_trie::ListMap;
-use ddt_wires::{Call, MOST_BYTES, Waiting, WiresInMemory};
 use std::alloc::Global;
 use std::process::Abort;
 use std::test::Fail;
@@ -31,11 +31,11 @@ const MORE_FLAGS: usize = 34;
 
 const MASK_LEN: usize = 53;
 
-/// How a request differs from the one spelling.
+/// A difference of a request from the core's spelling.
 #[derive(Clone, Copy, Debug)]
 enum Change {
     Nothing,
-    /// It asks for a prefix of this length.
+    /// It is for a prefix of this length.
     Prefix(u8),
     /// It is a probe.
     Probe,
@@ -43,11 +43,11 @@ enum Change {
     NoReply,
 }
 
-/// What the server sends.
+/// The datagrams that the server sends.
 #[derive(Clone, Copy, Debug, PartialEq, Eq)]
 enum Sent {
     Nothing,
-    /// The bytes that came, to the ETR.
+    /// The received bytes, to the ETR.
     Onward,
     /// A negative Map-Reply to the ITR.
     Negative,
@@ -55,7 +55,7 @@ enum Sent {
     Other,
 }
 
-/// The identifier, the change, and what is sent where the ITR is allowed.
+/// The identifier, the change, and what is sent if the ITR is allowed.
 const CASES: &[(&str, Change, Sent)] = &[
     ("[0]10.1.2.3", Change::Nothing, Sent::Onward),
     ("[0]10.1.2.0", Change::Prefix(24), Sent::Onward),
@@ -136,14 +136,14 @@ fn serve(
     asked: &[u8],
 ) -> Result<Sent, Fail> {
     let mut wires = WiresInMemory::new(alloc, 0);
-    wires.add(Waiting {
+    wires.add(WaitingDatagram {
         at: SERVER,
         from: ITR,
         port: CONTROL_PORT,
         bytes: Listed::of(Vec::from_slice(alloc, asked)?),
     })?;
     let settings = settings(alloc, is_allowed)?;
-    let door = Door {
+    let door = ServerSocket {
         alloc,
         at: SERVER,
         settings: &settings,
@@ -151,7 +151,7 @@ fn serve(
     let mut buffer = [0; MOST_BYTES];
     let mut done = ServerRecord::new(alloc);
     serve_ready(&mut wires, server, &door, 1, &mut buffer, &mut done);
-    let calls = wires.told().ok_or("no record")?;
+    let calls = wires.recorded_calls().ok_or("no record")?;
     Ok(sent_for(calls.get(1..).unwrap_or(&[]), asked))
 }
 

@@ -1,16 +1,16 @@
-//! What a Map-Resolver does with messages and at its ticks: for whom it asks, and what goes on to whom.
+//! A Map-Resolver's messages and ticks: for which ITRs it starts lookups, and which requests it forwards to whom.
 
 use crate::comparison::{holds, same};
 use ddt_cache::{Entry, Moment};
+use ddt_config::settings::{Settings, from_toml};
 use ddt_daemon::MapResolver;
 use ddt_ecm::CONTROL_PORT;
 use ddt_examples::bytes_of;
 use ddt_examples::messages::{HOLE_OF_EVERYTHING, ITR_REQUEST, ROOT_REFERS_TO_TEN};
 use ddt_path::{Listed, Locator, LocatorSet, Prefix, Xeid};
 use ddt_resolver::Resolver;
-use ddt_settings::{Settings, from_toml};
+use ddt_sockets::{Call, MOST_BYTES, WaitingDatagram, WiresInMemory};
 use ddt_trie::ListMap;
-use ddt_wires::{Call, MOST_BYTES, Waiting, WiresInMemory};
 use std::alloc::Global;
 use std::process::Abort;
 use std::test::Fail;
@@ -78,7 +78,7 @@ struct World {
     far: WiresInMemory,
 }
 
-/// A Map-Resolver that remembers nothing.
+/// A Map-Resolver with an empty cache.
 fn new_resolver(alloc: Global) -> Result<MapResolver<ListMap<Entry>>, Fail> {
     let roots = LocatorSet::of(&[SERVER]).ok_or("no roots")?;
     match roots.as_slice() {
@@ -94,7 +94,7 @@ fn new_settings(alloc: Global) -> Result<Settings, Fail> {
     }
 }
 
-/// A Map-Resolver that remembers nothing, among wires at which nothing waits.
+/// A Map-Resolver with an empty cache, among wires without messages.
 fn new_world(alloc: Global) -> Result<World, Fail> {
     let settings = new_settings(alloc)?;
     Ok(World {
@@ -106,9 +106,9 @@ fn new_world(alloc: Global) -> Result<World, Fail> {
 }
 
 impl World {
-    /// Lets a message come from an address and a port, and takes it.
+    /// Delivers a message from an address and a port, and receives it.
     fn take(&mut self, alloc: Global, from: Locator, port: u16, message: &str) -> Result<(), Fail> {
-        self.near.add(Waiting {
+        self.near.add(WaitingDatagram {
             at: ME,
             from,
             port,
@@ -133,22 +133,27 @@ impl World {
         Ok(Moment::at(deadline).ok_or("no moment")?)
     }
 
-    /// So many requests wait.
+    /// Asserts the number of waiting requests.
     fn waits(&self, rt: &impl Abort, count: usize) {
         same(rt, &self.resolver.waiting(), &count, &"waiting");
     }
 
-    /// So many datagrams were tried at the near wires.
+    /// Asserts the number of datagrams that were tried at the near wires.
     fn has_tried_near(&self, rt: &impl Abort, count: usize) {
-        same(rt, &tries(self.near.told()), &count, &"tried near");
+        same(
+            rt,
+            &tries(self.near.recorded_calls()),
+            &count,
+            &"tried near",
+        );
     }
 
-    /// So many were tried at the far ones.
+    /// Asserts the number of datagrams that were tried at the far wires.
     fn has_tried_far(&self, rt: &impl Abort, count: usize) {
-        same(rt, &tries(self.far.told()), &count, &"tried far");
+        same(rt, &tries(self.far.recorded_calls()), &count, &"tried far");
     }
 
-    /// This message was tried so often at the near wires, to this address.
+    /// Asserts how often this message was tried at the near wires, to this address.
     fn has_told(
         &self,
         alloc: Global,
@@ -158,13 +163,13 @@ impl World {
         count: usize,
     ) -> Result<(), Fail> {
         let bytes = bytes_of(alloc, message)?;
-        let times = times(self.near.told(), to, bytes.as_slice());
+        let times = times(self.near.recorded_calls(), to, bytes.as_slice());
         same(rt, &times, &count, &message);
         Ok(())
     }
 }
 
-/// How many calls are tries.
+/// The number of calls that are tries.
 fn tries(calls: Option<&[Call]>) -> usize {
     calls
         .unwrap_or(&[])
@@ -177,7 +182,7 @@ fn is_try(call: &Call) -> bool {
     matches!(call, Call::Tried { .. })
 }
 
-/// How many calls tried to send these bytes to this address.
+/// The number of calls that tried to send these bytes to this address.
 fn times(calls: Option<&[Call]>, to: Locator, bytes: &[u8]) -> usize {
     calls
         .unwrap_or(&[])
@@ -193,7 +198,7 @@ fn sends(call: &Call, address: Locator, message: &[u8]) -> bool {
     }
 }
 
-/// Whether a call tried to send a request with its bit D set, and nothing else of it changed, to the server.
+/// Whether a call tried to send the server a request with its bit D set and nothing else changed.
 fn is_onward(alloc: Global, call: Option<&Call>, request: &str) -> Result<bool, Fail> {
     let plain = bytes_of(alloc, request)?;
     match call {
@@ -214,7 +219,7 @@ fn is_onward(alloc: Global, call: Option<&Call>, request: &str) -> Result<bool, 
     }
 }
 
-/// A registered request goes on, and only once.
+/// A request for a registered site is forwarded, and only once.
 fn goes_on_once(alloc: Global, rt: &impl Abort, world: &mut World) -> Result<(), Fail> {
     world.take(alloc, ITR, ITR_PORT, ITR_REQUEST)?;
     world.waits(rt, 1);
@@ -222,7 +227,7 @@ fn goes_on_once(alloc: Global, rt: &impl Abort, world: &mut World) -> Result<(),
     world.take(alloc, SERVER, CONTROL_PORT, ACKNOWLEDGED)?;
     world.waits(rt, 0);
     world.has_tried_far(rt, 1);
-    let told = world.far.told().unwrap_or(&[]);
+    let told = world.far.recorded_calls().unwrap_or(&[]);
     let onward = is_onward(alloc, told.first(), ITR_REQUEST)?;
     holds(rt, onward, &"onward");
     world.take(alloc, SERVER, CONTROL_PORT, ACKNOWLEDGED)?;
@@ -265,7 +270,7 @@ fn who_is_not_allowed_is_not_asked_for(rt: HostRuntime) -> Result<(), Fail> {
     is_denied(rt.alloc(), &rt, &mut world)
 }
 
-/// A request that names the resolver itself, and one that was sent on and comes back from another address, are dropped.
+/// A request that names the resolver itself is dropped, and so is a forwarded one that comes back from another address.
 fn go_round(alloc: Global, rt: &impl Abort, world: &mut World) -> Result<(), Fail> {
     world.take(alloc, OTHER_ITR, ITR_PORT, OWN_REQUEST)?;
     world.waits(rt, 0);
@@ -286,7 +291,7 @@ fn what_would_come_back_is_dropped(rt: HostRuntime) -> Result<(), Fail> {
     go_round(rt.alloc(), &rt, &mut world)
 }
 
-/// What is remembered of a prefix is told, found for an identifier, and forgotten once.
+/// A cached referral of a prefix is listed, found for an identifier, and dropped once.
 fn is_forgotten(alloc: Global, rt: &impl Abort, world: &mut World) -> Result<(), Fail> {
     world.take(alloc, ITR, ITR_PORT, ITR_REQUEST)?;
     world.take(alloc, SERVER, CONTROL_PORT, ROOT_REFERS_TO_TEN)?;
@@ -375,7 +380,7 @@ fn both_go_on(alloc: Global, rt: &impl Abort, world: &mut World) -> Result<(), F
     world.waits(rt, 0);
     world.has_tried_near(rt, 1);
     world.has_tried_far(rt, 2);
-    let told = world.far.told().unwrap_or(&[]);
+    let told = world.far.recorded_calls().unwrap_or(&[]);
     let first = is_onward(alloc, told.first(), ITR_REQUEST)?;
     let second = is_onward(alloc, told.get(1), OTHER_REQUEST)?;
     holds(rt, first && second, &"both");
@@ -478,7 +483,7 @@ fn ask_twice(alloc: Global, world: &mut World) -> Result<(), Fail> {
     world.take(alloc, ITR, ITR_PORT, REQUEST_ELSEWHERE)
 }
 
-/// A tick of all that is due, after which so many datagrams were tried.
+/// Ticks all lookups that are due, and asserts the number of datagrams tried.
 fn tries_due(rt: &impl Abort, world: &mut World, now: Moment, count: usize) {
     world
         .resolver
@@ -506,7 +511,7 @@ fn each_lookup_that_is_due_is_tried_again(rt: HostRuntime) -> Result<(), Fail> {
     are_tried_again(&rt, &mut world)
 }
 
-/// What is due is tried again, where a request waits.
+/// A lookup that is due is retried while a request waits.
 fn go_on(world: &mut World) -> Result<(), Fail> {
     if world.resolver.waiting() > 0 {
         let due = world.due()?;

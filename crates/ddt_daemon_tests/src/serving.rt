@@ -2,16 +2,18 @@
 
 use crate::comparison::same;
 use ddt_config::from_toml;
-use ddt_daemon::{AnswerCounts, CountedAnswers, Door, ServerCounts, ServerRecord, serve_ready};
+use ddt_config::settings::ServerSettings;
+use ddt_daemon::{
+    AnswerCounts, CountedAnswers, ServerCounts, ServerRecord, ServerSocket, serve_ready,
+};
 use ddt_ecm::CONTROL_PORT;
 use ddt_examples::bytes_of;
 use ddt_examples::configurations::EAST;
 use ddt_examples::messages::DDT_REQUEST;
 use ddt_node::{Server, has_room_for};
 use ddt_path::{Listed, Locator};
-use ddt_settings::ServerSettings;
+use ddt_sockets::{MOST_BYTES, WaitingDatagram, WiresInMemory};
 use ddt_trie::ListMap;
-use ddt_wires::{MOST_BYTES, Waiting, WiresInMemory};
 use std::alloc::Global;
 use std::process::Abort;
 use std::test::Fail;
@@ -27,9 +29,9 @@ fn east(alloc: Global, rt: &impl Abort) -> Result<Server<ListMap<u32>>, Fail> {
     Ok(Server::build(alloc, config).ok().ok_or("no memory")?)
 }
 
-/// Lets a message of the resolver wait.
+/// Adds a message of the resolver to the wires.
 fn add(alloc: Global, wires: &mut WiresInMemory, message: &str) -> Result<(), Fail> {
-    wires.add(Waiting {
+    wires.add(WaitingDatagram {
         at: SERVER,
         from: RESOLVER,
         port: CONTROL_PORT,
@@ -40,7 +42,7 @@ fn add(alloc: Global, wires: &mut WiresInMemory, message: &str) -> Result<(), Fa
 
 const MESSAGES: &[&str] = &[DDT_REQUEST, "00", DDT_REQUEST, DDT_REQUEST];
 
-/// Wires at which the messages wait.
+/// Wires with the waiting messages.
 fn busy(alloc: Global) -> Result<WiresInMemory, Fail> {
     let mut wires = WiresInMemory::new(alloc, 0);
     for message in MESSAGES {
@@ -49,10 +51,10 @@ fn busy(alloc: Global) -> Result<WiresInMemory, Fail> {
     Ok(wires)
 }
 
-/// How many messages each round may take, and how many it then receives and replies to.
+/// The most messages of each round, and the numbers that it then receives and replies to.
 const ROUNDS: &[(u32, u32, u64)] = &[(0, 0, 0), (3, 3, 2), (3, 1, 1), (3, 0, 0)];
 
-/// How the messages are answered: each request by an MS-ACK, and the one that is no message not at all.
+/// The counts after the messages: an MS-ACK for each request, and nothing for the one that is no message.
 const ANSWERED: AnswerCounts = AnswerCounts {
     not_encapsulated: 1,
     node_referral: 0,
@@ -63,7 +65,7 @@ const ANSWERED: AnswerCounts = AnswerCounts {
     not_authoritative: 0,
 };
 
-/// The server takes its rounds.
+/// The server serves its rounds.
 fn serves(
     alloc: Global,
     rt: &impl Abort,
@@ -72,7 +74,7 @@ fn serves(
 ) {
     let mut buffer = [0; MOST_BYTES];
     let settings = ServerSettings::none(alloc);
-    let door = Door {
+    let door = ServerSocket {
         alloc,
         at: SERVER,
         settings: &settings,

@@ -1,8 +1,8 @@
-//! Texts of settings, and what stands in the way of others.
+//! Valid texts of settings, and the faults of others.
 
 use crate::comparison::{holds, same};
+use ddt_config::settings::{Key, Settings, SettingsFault, from_toml};
 use ddt_path::Locator;
-use ddt_settings::{Key, Settings, SettingsFault, from_toml};
 use std::alloc::Global;
 use std::process::Abort;
 use std::test::Fail;
@@ -31,7 +31,7 @@ fn settings_of(alloc: Global, text: &str) -> Result<Settings, Fail> {
     }
 }
 
-/// The last numbers of addresses, and whether these may ask.
+/// The last numbers of addresses, and whether they are allowed.
 const NEAR: &[(u32, bool)] = &[(128, true), (255, true), (127, false), (0, false)];
 
 fn near_may_ask(rt: &impl Abort, settings: &Settings) {
@@ -111,7 +111,7 @@ fn number_of(fault: &SettingsFault) -> u8 {
     }
 }
 
-/// The number of the fault of a text; None where it is taken.
+/// The number of the fault of a text; None if it has none.
 fn fault_of(alloc: Global, text: &str) -> Option<u8> {
     match from_toml(alloc, text) {
         Ok(_settings) => None,

@@ -24,9 +24,9 @@ ghost use Rattle.ddt_path.specs.Steps.{IsReadAs};
 ghost use Rattle.ddt_ecm.specs.Checksum.{ones_sum};
 ghost use Rattle.ddt_ecm.specs.Ipv4Header.{pseudo4, header_len, has_length4, ipv4_at, ipv4_header as ipv4_header_of, written_ipv4};
 
-use crate::checksum::{VALID, sum};
 use crate::fault::RequestFault;
 use crate::ip_header::{HOP_LIMIT, UDP, VERSION_SHIFT};
+use crate::ones_sum::{VALID, sum};
 use crate::udp_header::UDP_HEADER;
 use byteorder::{BigEndian, ByteOrder};
 use std::alloc::AllocError;

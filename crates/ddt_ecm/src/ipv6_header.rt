@@ -22,9 +22,9 @@ ghost use Rattle.ddt_path.specs.Steps.{IsReadAs};
 ghost use Rattle.ddt_ecm.specs.Checksum.{ones_sum};
 ghost use Rattle.ddt_ecm.specs.Ipv6Header.{pseudo6, ipv6_at, ipv6_head};
 
-use crate::checksum::sum;
 use crate::fault::RequestFault;
 use crate::ip_header::{HOP_LIMIT, UDP, VERSION_SHIFT};
+use crate::ones_sum::sum;
 use crate::udp_header::UDP_HEADER;
 use byteorder::{BigEndian, ByteOrder};
 use std::alloc::AllocError;

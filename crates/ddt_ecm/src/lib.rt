@@ -5,7 +5,6 @@
 //! Tests: ddt_format_tests/messages/ecm.
 #![tactic(auto)]
 
-mod checksum;
 mod ecm_header;
 mod fault;
 mod ip_header;
@@ -13,6 +12,7 @@ mod ipv4_header;
 mod ipv6_header;
 mod laws;
 mod map_request;
+mod ones_sum;
 mod request;
 mod udp_header;
 

@@ -155,8 +155,10 @@ pub(crate) fn read_map_request(message: &[u8]) -> Result<(u64, Xeid, Rlocs<'_>),
     Ok((BigEndian::read_u64(&message[4..]), xeid, rlocs))
 }
 
-/// A Map-Request with one ITR-RLOC has no more bytes.
-const USUAL_BYTES: usize = 64;
+/// A Map-Request has at most as many bytes beside its ITR-RLOCs.
+const MOST_BESIDE: usize = 46;
+/// An ITR-RLOC, with its AFI, has at most as many.
+const MOST_OF_AN_RLOC: usize = 18;
 
 /// A Map-Request, of at most 622 bytes.
 pub(crate) fn map_request(
@@ -170,7 +172,7 @@ pub(crate) fn map_request(
     ensures written { IfOk result (λ bytes. bytes.items ≡ written_map_request nonce x rlocs.now) }
     ensures fits { OnOk result (IsRequest nonce x rlocs.now) }
 {
-    let mut bytes = Vec::with_capacity(alloc, USUAL_BYTES)?;
+    let mut bytes = Vec::with_capacity(alloc, MOST_BESIDE + MOST_OF_AN_RLOC * rlocs.len())?;
     bytes.extend_from_slice(&[MAP_REQUEST << TYPE_SHIFT, 0, (rlocs.len() - 1) as u8, 1])?;
     bytes.extend_from_slice(&nonce.to_be_bytes())?;
     bytes.extend_from_slice(&NO_ADDRESS.to_be_bytes())?;

@@ -14,8 +14,8 @@ ghost use Rattle.std.specs.Prelude.{◌≡◌, ◌≤◌, ◌++◌, length, OnOk
 ghost use Rattle.ddt_path.specs.Steps.{IsReadAs};
 ghost use Rattle.ddt_ecm.specs.UdpHeader.{control_port, udp_at, udp_fields, written_udp};
 
-use crate::checksum::{VALID, sum};
 use crate::fault::RequestFault;
+use crate::ones_sum::{VALID, sum};
 use byteorder::{BigEndian, ByteOrder};
 use std::alloc::AllocError;
 

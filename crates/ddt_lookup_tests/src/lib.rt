@@ -1,5 +1,5 @@
 //! The tests of `ddt_sim` and `ddt_loop`: worked lookups and schedules over the servers of a compiled register, lookups
-//! over servers that say anything, and runs over wires. `comparison` is what all assert by.
+//! over servers that say anything, and runs over wires. `comparison` has the assertions.
 #![tactic(auto)]
 
 #[cfg(test)]

@@ -1,5 +1,5 @@
-//! Memory is refused to the servers of a register, to lookups, to schedules and to runs over wires: nothing that was
-//! promised is lost, and the next call gives what this one was to give.
+//! Memory is refused to the servers of a register, to lookups, to schedules and to runs over wires. What the contracts
+//! say stays, and the next call returns what this one would have returned.
 //!
 //! `.ci/memory` runs each of these tests with each growth refused in turn.
 
@@ -14,7 +14,7 @@ use ddt_ecm::read_request;
 use ddt_examples::bytes_of;
 use ddt_examples::messages::{DDT_REQUEST, ROOT_REFERS_TO_TEN};
 use ddt_examples::registers::{CAMPUS, CAMPUS_GROWN};
-use ddt_loop::{LoopEnd, SteppingClock, Tree, loop_turns};
+use ddt_loop::{LoopEnd, SocketMap, SteppingClock, loop_turns};
 use ddt_path::{Listed, Locator, LocatorSet, Outcome, Xeid};
 use ddt_register::read_register;
 use ddt_resolver::{AskError, Asked, Heard, Ignored, Resolver, Ticked, Why};
@@ -23,14 +23,14 @@ use std::alloc::{AllocError, Global};
 use std::process::Abort;
 use std::test::Fail;
 
-// ---- what stands ready
+// ---- registers, servers and resolvers
 
 const ROOT: Locator = Locator::V4(0x7f00_0001);
 
-/// Where no server is.
+/// A locator without a server.
 const NOWHERE: Locator = Locator::V4(0x7f00_0009);
 
-/// The register of a text, read once more where memory is refused, and accepted.
+/// The accepted register of a text, read once more if memory is refused.
 fn accepted(alloc: Global, text: &str) -> Result<Accepted, Fail> {
     let register = match read_register(alloc, text.as_bytes()) {
         Ok(register) => register,
@@ -42,7 +42,7 @@ fn accepted(alloc: Global, text: &str) -> Result<Accepted, Fail> {
     }
 }
 
-/// Its servers, built once more where memory is refused.
+/// The servers of a register, built once more if memory is refused.
 fn servers(alloc: Global, text: &str) -> Result<ListServers, Fail> {
     let register = accepted(alloc, text)?;
     match Compiled::build(alloc, &register) {
@@ -73,7 +73,7 @@ const SITE: &str = "[0]10.1.2.3";
 
 const HOLE: &str = "[0]10.2.0.1";
 
-/// What the campus assigns to these.
+/// The assignments of the campus to these identifiers.
 fn assigned(text: &str) -> Result<Outcome, Fail> {
     if text == HOLE {
         return Ok(Outcome::Hole {
@@ -89,7 +89,7 @@ fn assigned(text: &str) -> Result<Outcome, Fail> {
 
 // ---- servers
 
-/// What a server replies, asked once more where memory is refused.
+/// A server's reply, asked once more if memory is refused.
 fn answered(
     alloc: Global,
     servers: &mut ListServers,
@@ -120,14 +120,14 @@ fn a_server_answers_whole(rt: HostRuntime) -> Result<(), Fail> {
         &answered(rt.alloc(), &mut servers, ROOT, &request)?,
         &wanted,
     );
-    // Where no server is, no memory is wanted.
+    // Without a server, no memory is needed.
     is_reply(&rt, &servers.answer(rt.alloc(), NOWHERE, &request)?, &[]);
     Ok(())
 }
 
 // ---- lookups
 
-/// What a new lookup of an identifier is answered, asked for once more where memory is refused.
+/// The answer to a new ask for an identifier, asked once more if memory is refused.
 fn asked(resolver: &mut ListResolver, now: Moment, text: &str) -> Result<Asked, Fail> {
     let x = identifier(text)?;
     match resolver.ask(now, x) {
@@ -136,7 +136,7 @@ fn asked(resolver: &mut ListResolver, now: Moment, text: &str) -> Result<Asked, 
     }
 }
 
-/// The nonce of a new lookup, which stays pending, of an identifier that nothing is known of.
+/// The nonce of a new lookup of an unknown identifier. The lookup stays pending.
 fn next_nonce(resolver: &mut ListResolver) -> Result<u64, Fail> {
     let now = resolver.time();
     match &asked(resolver, now, "[0]11.0.0.1")? {
@@ -145,7 +145,7 @@ fn next_nonce(resolver: &mut ListResolver) -> Result<u64, Fail> {
     }
 }
 
-/// A hop asks for the identifier under this nonce, and has the reply of its server.
+/// Checks that a hop asks for the identifier with this nonce, and has the reply of its server.
 fn is_hop(
     rt: &impl Abort,
     alloc: Global,
@@ -161,7 +161,7 @@ fn is_hop(
     Ok(())
 }
 
-/// The hops have the nonces behind this one, and no other was used.
+/// Checks that the hops have the nonces after this one, and that no other was used.
 fn are_all(
     rt: &impl Abort,
     alloc: Global,
@@ -184,7 +184,8 @@ fn is_outcome(rt: &impl Abort, outcome: &Outcome, text: &str) -> Result<(), Fail
     Ok(())
 }
 
-/// A lookup of an identifier gives what is assigned and each of its hops; how it failed, where memory is refused.
+/// Checks that a lookup of an identifier returns its assignment and each of its hops, or the error if memory is
+/// refused.
 fn looks_up(
     rt: &impl Abort,
     alloc: Global,
@@ -205,7 +206,7 @@ fn looks_up(
     Ok(None)
 }
 
-/// The lookup was refused memory, and it isn't pending; the one whose nonce was looked at before it is.
+/// Checks that the lookup was refused memory and isn't pending; the one whose nonce was read before it is.
 fn is_undone(rt: &impl Abort, why: LookupError, resolver: &ListResolver, before: usize) {
     same(
         rt,
@@ -215,7 +216,7 @@ fn is_undone(rt: &impl Abort, why: LookupError, resolver: &ListResolver, before:
     );
 }
 
-/// A lookup, looked up once more where memory is refused: then no more is pending than before.
+/// A lookup, made once more if memory is refused: then no more lookups are pending than before.
 fn is_found(
     rt: &impl Abort,
     alloc: Global,
@@ -234,7 +235,7 @@ fn is_found(
     }
 }
 
-/// Lookups of both identifiers give what is assigned.
+/// Checks that lookups of both identifiers return their assignments.
 fn are_found(
     rt: &impl Abort,
     alloc: Global,
@@ -275,7 +276,7 @@ fn new_stage(alloc: Global, registers: &Registers) -> Result<Stage, Fail> {
     })
 }
 
-/// An empty list with room for so many steps, made once more where memory is refused.
+/// An empty list with room for `count` steps, made once more if memory is refused.
 fn room(alloc: Global, count: usize) -> Result<Vec<Step>, AllocError> {
     match Vec::with_capacity(alloc, count) {
         Ok(room) => Ok(room),
@@ -292,9 +293,9 @@ fn steps(alloc: Global, lines: Lines) -> Result<Vec<Step>, Fail> {
     Ok(steps)
 }
 
-/// What an event tells, without bytes. A lookup goes by its ticket, an answer at once by 0.
+/// The summary of an event, without bytes. A lookup has the number of its ticket, an answer at once 0.
 #[derive(Clone, Copy, Debug, PartialEq)]
-enum Told {
+enum EventSummary {
     Asks(u64, Locator),
     Answer(u64, Outcome),
     GaveUp(u64, Why),
@@ -307,47 +308,47 @@ enum Told {
     Nothing,
 }
 
-fn tells(event: &Event) -> Told {
+fn summary(event: &Event) -> EventSummary {
     match event {
-        Event::Asked(asked) => asked_tells(asked),
-        Event::Refused(why) => Told::Refused(*why),
-        Event::Replied(number) => Told::Replied(*number),
-        Event::Silent => Told::Silent,
-        Event::Heard(heard) => heard_tells(heard),
-        Event::Passed(moment) => Told::Passed(*moment),
-        Event::Ticked(ticked) => ticked_tells(ticked),
-        Event::Replaced(number) => Told::Replaced(*number),
-        Event::Nothing => Told::Nothing,
+        Event::Asked(asked) => asked_summary(asked),
+        Event::Refused(why) => EventSummary::Refused(*why),
+        Event::Replied(number) => EventSummary::Replied(*number),
+        Event::Silent => EventSummary::Silent,
+        Event::Heard(heard) => heard_summary(heard),
+        Event::Passed(moment) => EventSummary::Passed(*moment),
+        Event::Ticked(ticked) => ticked_summary(ticked),
+        Event::Replaced(number) => EventSummary::Replaced(*number),
+        Event::Nothing => EventSummary::Nothing,
     }
 }
 
-fn asked_tells(asked: &Asked) -> Told {
+fn asked_summary(asked: &Asked) -> EventSummary {
     match asked {
-        Asked::Sent(ticket, request) => Told::Asks(ticket.number(), request.to),
-        Asked::Answer(outcome) => Told::Answer(0, *outcome),
+        Asked::Sent(ticket, request) => EventSummary::Asks(ticket.number(), request.to),
+        Asked::Answer(outcome) => EventSummary::Answer(0, *outcome),
     }
 }
 
-fn heard_tells(heard: &Heard) -> Told {
+fn heard_summary(heard: &Heard) -> EventSummary {
     match heard {
-        Heard::Ignored(why) => Told::Ignored(*why),
-        Heard::Followed(ticket, request) => Told::Asks(ticket.number(), request.to),
-        Heard::Answer(ticket, outcome) => Told::Answer(ticket.number(), *outcome),
-        Heard::GaveUp(ticket, why) => Told::GaveUp(ticket.number(), *why),
+        Heard::Ignored(why) => EventSummary::Ignored(*why),
+        Heard::Followed(ticket, request) => EventSummary::Asks(ticket.number(), request.to),
+        Heard::Answer(ticket, outcome) => EventSummary::Answer(ticket.number(), *outcome),
+        Heard::GaveUp(ticket, why) => EventSummary::GaveUp(ticket.number(), *why),
     }
 }
 
-fn ticked_tells(ticked: &Ticked) -> Told {
+fn ticked_summary(ticked: &Ticked) -> EventSummary {
     match ticked {
-        Ticked::Nothing => Told::Nothing,
-        Ticked::Sent(ticket, request) => Told::Asks(ticket.number(), request.to),
-        Ticked::Answer(ticket, outcome) => Told::Answer(ticket.number(), *outcome),
-        Ticked::GaveUp(ticket, why) => Told::GaveUp(ticket.number(), *why),
+        Ticked::Nothing => EventSummary::Nothing,
+        Ticked::Sent(ticket, request) => EventSummary::Asks(ticket.number(), request.to),
+        Ticked::Answer(ticket, outcome) => EventSummary::Answer(ticket.number(), *outcome),
+        Ticked::GaveUp(ticket, why) => EventSummary::GaveUp(ticket.number(), *why),
     }
 }
 
 fn is_alike(rt: &impl Abort, one: &Event, other: &Event) {
-    same(rt, &tells(one), &tells(other), &"an event");
+    same(rt, &summary(one), &summary(other), &"an event");
 }
 
 fn are_alike(rt: &impl Abort, one: &[Event], other: &[Event]) {
@@ -357,7 +358,7 @@ fn are_alike(rt: &impl Abort, one: &[Event], other: &[Event]) {
     }
 }
 
-/// What a run of these steps on a new stage tells.
+/// The transcript of these steps on a new stage.
 fn runs_anew(
     alloc: Global,
     registers: &Registers,
@@ -367,7 +368,7 @@ fn runs_anew(
     Ok(run(alloc, &mut stage.members, &mut stage.resolver, steps))
 }
 
-/// The same, once more where memory is refused.
+/// The same, once more if memory is refused.
 fn wanted(alloc: Global, registers: &Registers, steps: &[Step]) -> Result<Transcript, Fail> {
     match runs_anew(alloc, registers, steps)? {
         Ok(told) => Ok(told),
@@ -375,14 +376,14 @@ fn wanted(alloc: Global, registers: &Registers, steps: &[Step]) -> Result<Transc
     }
 }
 
-/// A run on a new stage tells the same, and sends as many datagrams.
+/// Checks that two transcripts have the same events, and as many datagrams.
 fn is_whole(rt: &impl Abort, told: &Transcript, wanted: &Transcript) {
     let (sent, to_send) = (told.sent.as_slice(), wanted.sent.as_slice());
     same(rt, &sent.len(), &to_send.len(), &"the datagrams");
     are_alike(rt, told.events.as_slice(), wanted.events.as_slice());
 }
 
-/// The nonce of a new lookup of an identifier and the server that it asks; None where it is answered at once.
+/// The nonce of a new lookup of an identifier and the server that it asks; None if it is answered at once.
 fn server_asked(
     resolver: &mut ListResolver,
     now: Moment,
@@ -394,8 +395,8 @@ fn server_asked(
     }
 }
 
-/// What can be seen of a resolver: how many lookups are pending, and of new ones of two identifiers the nonces and the
-/// servers that they ask.
+/// What can be observed of a resolver: the number of pending lookups, and the nonces and servers of new lookups of two
+/// identifiers.
 #[derive(Clone, Copy, Debug, PartialEq)]
 struct Seen {
     pending: usize,
@@ -424,7 +425,7 @@ fn is_after(
     Ok(look_at(&mut other.resolver, now)? == *left)
 }
 
-/// The same steps bring the same on two stages.
+/// Checks that the same steps have the same effects on two stages.
 fn go_on_alike(
     rt: &impl Abort,
     alloc: Global,
@@ -438,7 +439,8 @@ fn go_on_alike(
     Ok(())
 }
 
-/// A run that memory stopped left its resolver as it is after some of the first steps. A second run goes on from there.
+/// Checks that a run without enough memory left its resolver as it is after some first steps. A second run goes on from
+/// there.
 fn is_after_some(
     rt: &impl Abort,
     alloc: Global,
@@ -462,8 +464,8 @@ fn lost(rt: &impl Abort, left: &Seen) {
     holds(rt, false, &("a resolver after no number of steps", left));
 }
 
-/// A run of these lines tells what it tells on a new stage. Refused memory it tells nothing, and a second run goes on
-/// where it stopped.
+/// Checks that a run of these lines has the same events as on a new stage. If memory is refused it has none, and a
+/// second run goes on where it stopped.
 fn plays(
     rt: &impl Abort,
     alloc: Global,
@@ -487,7 +489,7 @@ fn asks_the_root(rt: &impl Abort, resolver: &mut ListResolver) -> Result<(), Fai
     Ok(())
 }
 
-/// A run of these lines over a new stage, after which nothing is known of another identifier.
+/// Runs these lines on a new stage, after which another identifier is unknown.
 fn plays_and_asks(
     rt: &impl Abort,
     alloc: Global,
@@ -499,21 +501,21 @@ fn plays_and_asks(
     asks_the_root(rt, &mut stage.resolver)
 }
 
-/// After a run of two lookups side by side, lookups of both identifiers give what is assigned.
+/// Checks that after a run of two lookups side by side, lookups of both identifiers return their assignments.
 fn stays_sound(rt: &impl Abort, alloc: Global, stage: &mut Stage) -> Result<(), Fail> {
     plays_and_asks(rt, alloc, stage, &CAMPUS_ALONE, SIDE_BY_SIDE)?;
     are_found(rt, alloc, &mut stage.members[0], &mut stage.resolver)
 }
 
-/// Nothing is lost of what the steps before the refusal brought, and whatever was saved of the schedule's identifiers is
-/// right: lookups of them give what is assigned.
+/// Checks that the steps before the refusal keep their effects, and that what was saved is right: lookups of the
+/// schedule's identifiers return their assignments.
 #[test]
 fn after_a_schedule_the_resolver_is_sound(rt: HostRuntime) -> Result<(), Fail> {
     let mut stage = new_stage(rt.alloc(), &CAMPUS_ALONE)?;
     stays_sound(&rt, rt.alloc(), &mut stage)
 }
 
-/// The same while servers are replaced, but that a hole is remembered which is no longer assigned.
+/// The same if servers are replaced, except that a hole is remembered which is no longer assigned.
 #[test]
 fn a_schedule_with_other_servers_is_told_or_undone(rt: HostRuntime) -> Result<(), Fail> {
     let mut stage = new_stage(rt.alloc(), &CAMPUS_GROWS)?;
@@ -545,12 +547,12 @@ struct World {
     clock: SteppingClock,
 }
 
-/// What both identifiers end in, in at most 20,000 turns of 5 milliseconds.
+/// The ends of both identifiers, in at most 20,000 turns of 5 milliseconds.
 fn turned(alloc: Global, world: &mut World, ids: &[Xeid]) -> Result<Vec<LoopEnd>, AllocError> {
     loop_turns(
         &mut world.wires,
         &mut world.clock,
-        &Tree {
+        &SocketMap {
             me: ME,
             sockets: &SOCKETS,
             servers: &world.servers,
@@ -561,8 +563,8 @@ fn turned(alloc: Global, world: &mut World, ids: &[Xeid]) -> Result<Vec<LoopEnd>
     )
 }
 
-/// What can be seen of a world: how many calls were made, how many lookups are pending, the resolver's time and the
-/// clock's next reading.
+/// What can be observed of a world: the numbers of calls and of pending lookups, the resolver's time and the clock's
+/// next reading.
 fn scene(world: &World) -> (u64, usize, Moment, Moment) {
     let (wires, resolver) = (&world.wires, &world.resolver);
     (
@@ -582,8 +584,8 @@ fn is_as_before(rt: &impl Abort, world: &World, before: (u64, usize, Moment, Mom
     );
 }
 
-/// The same, once more where memory is refused to its own lists: then no call was made and no clock read, and nothing
-/// is pending.
+/// The same, once more if memory is refused to its own lists: then no call was made, no clock read, and no lookup is
+/// pending.
 fn ends(
     rt: &impl Abort,
     alloc: Global,
@@ -600,8 +602,8 @@ fn ends(
     }
 }
 
-/// Whether an end is the outcome that is assigned. An ask to which memory was refused is the only other end, since one
-/// lost datagram is sent again.
+/// Whether an end is the assigned outcome. The only other end is an ask that was refused memory, since one lost
+/// datagram is sent again.
 fn is_right(rt: &impl Abort, end: &LoopEnd, text: &str) -> Result<bool, Fail> {
     match end {
         LoopEnd::Answer(outcome) => is_outcome(rt, outcome, text)?,
@@ -611,7 +613,7 @@ fn is_right(rt: &impl Abort, end: &LoopEnd, text: &str) -> Result<bool, Fail> {
     Ok(true)
 }
 
-/// How many asks were refused memory; each other one has its outcome.
+/// The number of asks that were refused memory; each other one has its outcome.
 fn refused(rt: &impl Abort, ends: &[LoopEnd]) -> Result<u64, Fail> {
     let mut refused: u64 = 0;
     for (end, text) in ends.iter().zip(&[SITE, HOLE]) {
@@ -622,13 +624,13 @@ fn refused(rt: &impl Abort, ends: &[LoopEnd]) -> Result<u64, Fail> {
     Ok(refused)
 }
 
-/// There are two ends, and no ask was refused whose request was to be sent.
+/// Checks that there are two ends, and that no ask was refused whose request was to be sent.
 fn are_two(rt: &impl Abort, ends: &[LoopEnd], refused: u64, sent: u64) {
     same(rt, &ends.len(), &2, &"the ends");
     holds(rt, refused.saturating_add(sent) <= 2, &(refused, sent));
 }
 
-/// A run over a new network; whether both identifiers have their outcomes.
+/// Runs over a new network. Returns whether both identifiers have their outcomes.
 fn is_run_whole(rt: &impl Abort, alloc: Global, world: &mut World) -> Result<bool, Fail> {
     let ids = [identifier(SITE)?, identifier(HOLE)?];
     world.wires = Loopback::new(alloc, 0);
@@ -648,7 +650,7 @@ fn new_world(alloc: Global) -> Result<World, Fail> {
     })
 }
 
-/// Where one growth is refused, a second run has all memory.
+/// If one growth is refused, a second run has all memory.
 fn is_run_whole_in_two(rt: &impl Abort, alloc: Global, world: &mut World) -> Result<(), Fail> {
     if is_run_whole(rt, alloc, world)? || is_run_whole(rt, alloc, world)? {
         return Ok(());

@@ -1,4 +1,4 @@
-//! The texts in the tables: locators, identifiers and prefixes are read, what a lookup gives is written.
+//! The texts in the tables: reading locators, identifiers and prefixes, and writing the results of lookups.
 
 use crate::comparison::same;
 use ddt_lines::outcome_line;
@@ -52,7 +52,7 @@ pub fn set(alloc: Global, texts: &[&str]) -> Result<LocatorSet, Fail> {
     }
 }
 
-/// Words, a blank, and what is printed of a value.
+/// Words, a space, and the printed form of a value.
 pub fn worded<D: Display>(alloc: Global, words: &str, value: &D) -> Result<String, Fail> {
     Ok(format!(in alloc; "{words} {value}")?)
 }
@@ -71,7 +71,7 @@ pub fn outcome_text(alloc: Global, outcome: &Outcome) -> Result<String, Fail> {
     Ok(String::from_utf8(line)?)
 }
 
-/// What a lookup gives: its outcome and the servers that it asked, in their order, as
+/// The result of a lookup: its outcome and the servers that it asked, in order, as
 /// `hole [0]10.2.0.0/15 by 127.0.0.1 127.0.0.10`; or how it failed, as `1 GaveUp 2 Loop`.
 pub fn lookup_text(alloc: Global, found: &Result<Lookup, LookupError>) -> Result<String, Fail> {
     match found {
@@ -88,7 +88,7 @@ fn found_text(alloc: Global, lookup: &Lookup) -> Result<String, Fail> {
     Ok(format!(in alloc; "{outcome} by{asked}")?)
 }
 
-/// The servers that were asked, each behind a blank; ` nobody` where there is none.
+/// The servers that were asked, each after a space; ` nobody` if there is none.
 fn asked_text(alloc: Global, hops: &[Hop]) -> Result<String, Fail> {
     let mut text = Vec::new(alloc);
     if hops.is_empty() {
@@ -100,18 +100,18 @@ fn asked_text(alloc: Global, hops: &[Hop]) -> Result<String, Fail> {
     Ok(String::from_utf8(text)?)
 }
 
-/// Appends a blank and a server.
+/// Appends a space and a server.
 fn push_server(text: &mut Vec<u8>, server: Locator) -> Result<(), AllocError> {
     text.push(b' ')?;
     write_locator(text, server)
 }
 
-/// Judges a text, for a row of a table that says this.
+/// Checks a text against a row of a table.
 pub fn judge_text(rt: &impl Abort, says: &str, found: &str, wanted: &str) {
     same(rt, &found, &wanted, &says);
 }
 
-/// Judges a number, for a row of a table that says this.
+/// Checks a number against a row of a table.
 pub fn judge_number(rt: &impl Abort, says: &str, found: u64, wanted: u64) {
     same(rt, &found, &wanted, &says);
 }

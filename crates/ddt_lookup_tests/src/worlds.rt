@@ -11,10 +11,10 @@ use ddt_trie::{ListMap, PrefixMap};
 use std::alloc::Global;
 use std::test::Fail;
 
-/// A resolver that keeps lists.
+/// A resolver over list maps.
 pub type ListResolver = Resolver<ListMap<Entry>>;
 
-/// Servers that keep lists.
+/// Servers over list maps.
 pub type ListServers = Compiled<ListMap<u32>>;
 
 /// The server of the root.
@@ -52,7 +52,7 @@ pub fn served<M: PrefixMap<u32>>(alloc: Global, text: &str) -> Result<Compiled<M
     Ok(Compiled::build(alloc, &accepted)?)
 }
 
-/// A new resolver whose root has these servers and whose first nonce is this one.
+/// A new resolver with these root servers and this first nonce.
 pub fn rooted<M: PrefixMap<Entry>>(
     alloc: Global,
     roots: &[&str],
@@ -65,7 +65,7 @@ pub fn rooted<M: PrefixMap<Entry>>(
     }
 }
 
-/// The moment of so many milliseconds.
+/// The moment of a number of milliseconds.
 pub fn moment(millis: u64) -> Result<Moment, Fail> {
     match Moment::at(millis) {
         Some(moment) => Ok(moment),
@@ -86,7 +86,7 @@ pub fn looked_up<S: Servers, M: PrefixMap<Entry>>(
     Ok(lookup(alloc, servers, resolver, now, x))
 }
 
-/// What such a lookup gives, where it has an outcome.
+/// The result of such a lookup with an outcome.
 pub fn found<S: Servers, M: PrefixMap<Entry>>(
     alloc: Global,
     servers: &mut S,

@@ -7,8 +7,8 @@ use Rattle.ddt_resolver.specs.declared.results.AskError.TheVariants as ask_error
 use Rattle.ddt_resolver.specs.State.{moved}
 use Rattle.ddt_resolver.specs.AskStep.{AskStep, AskWants, UnlessAskLacksMemory, OnMemory}
 use Rattle.ddt_resolver.specs.Step.{asks}
-use Rattle.ddt_wires.specs.declared.call.Call.TheVariants.{Tried}
-use Rattle.ddt_wires.specs.Turns.{AreTried}
+use Rattle.ddt_sockets.specs.declared.wire_calls.Call.TheVariants.{Tried}
+use Rattle.ddt_sockets.specs.Turns.{AreTried}
 use Rattle.ddt_resolver.specs.declared.results.Outgoing.{Outgoing as Sending}
 use Rattle.ddt_resolver.specs.Front.{in_buffer, reply_to_itr}
 use Rattle.ddt_loop.specs.Acts.{running, sent_if, IsToldItr, Asks, refused, lacks_memory}

@@ -10,18 +10,18 @@ use Rattle.ddt_path.specs.Locators.{lists, is_same_locator}
 use Rattle.ddt_path.specs.laws.Locator.{is_same_locator_self}
 use Rattle.ddt_path.specs.laws.Member.{in_get, fails_at}
 use Rattle.ddt_check.specs.Assignment.{assignment}
-use Rattle.ddt_wires.specs.declared.call.Call.{Call}
-use Rattle.ddt_wires.specs.declared.call.Call.TheVariants.{Received, Tried}
-use Rattle.ddt_wires.specs.declared.call.NetFault.{NetFault}
-use Rattle.ddt_wires.specs.Turns.{AreTried}
+use Rattle.ddt_sockets.specs.declared.wire_calls.Call.{Call}
+use Rattle.ddt_sockets.specs.declared.wire_calls.Call.TheVariants.{Received, Tried}
+use Rattle.ddt_sockets.specs.declared.wire_calls.NetFault.{NetFault}
+use Rattle.ddt_sockets.specs.Turns.{AreTried}
 use Rattle.ddt_resolver.specs.declared.results.Outgoing.{Outgoing}
 use Rattle.ddt_resolver.specs.declared.itr_messages.ItrRequest.{ItrRequest}
 use Rattle.ddt_resolver.specs.Front.{reply_to_itr}
 use Rattle.ddt_resolver.specs.State.{request_bytes}
-use Rattle.ddt_loop.specs.declared.ends.LoopEnd.TheVariants.{Unresolved}
-use Rattle.ddt_loop.specs.declared.owner.Asker.{Asker}
-use Rattle.ddt_loop.specs.declared.owner.Asker.TheVariants.{Identifier, Itr}
-use Rattle.ddt_loop.specs.declared.owner.Owner.{Owner}
+use Rattle.ddt_loop.specs.declared.lookup_end.LoopEnd.TheVariants.{Unresolved}
+use Rattle.ddt_loop.specs.declared.requester.Requester.{Requester}
+use Rattle.ddt_loop.specs.declared.requester.Requester.TheVariants.{Identifier, Itr}
+use Rattle.ddt_loop.specs.declared.requester.WaitingRequester.{WaitingRequester}
 use Rattle.ddt_loop.specs.Acts.{sent_if, IsSent, IsToldItr}
 use Rattle.ddt_loop.specs.Right.{WasAsked, ArePacketsFair, IsRightLoopEnd, IsNoReply, Owes, told, forgotten, other}
 
@@ -49,20 +49,20 @@ was_sent me d (Tried at to port bytes answer ∷ call ∷ rest) tried = absurd t
 -- ---- who may be replied to
 
 -- the ITRs among those who wait
-abbrev pub itr_of : Asker → List ItrRequest
+abbrev pub itr_of : Requester → List ItrRequest
 itr_of (Identifier place) = []
 itr_of (Itr q) = q ∷ []
 
-abbrev pub itrs : List Owner → List ItrRequest
+abbrev pub itrs : List WaitingRequester → List ItrRequest
 itrs [] = []
-itrs (o ∷ owners) = itr_of o.asker ++ itrs owners
+itrs (o ∷ waiting) = itr_of o.requester ++ itrs waiting
 
 pub itrs_append : (before after : _) → itrs (before ++ after) ≡ itrs before ++ itrs after
 itrs_append [] after = refl
 itrs_append (p ∷ before) after = rw (itrs_append before after, append_assoc)
 
-pub itrs_push : (owners o : _) → itrs (owners ++ o ∷ []) ≡ itrs owners ++ itr_of o.asker
-itrs_push owners o = rw (itrs_append owners (o ∷ []), append-nil (itr_of o.asker))
+pub itrs_push : (waiting o : _) → itrs (waiting ++ o ∷ []) ≡ itrs waiting ++ itr_of o.requester
+itrs_push waiting o = rw (itrs_append waiting (o ∷ []), append-nil (itr_of o.requester))
 
 -- calls that try no reply
 pub owes_others : {r me calls owed : _} (more : _) → Owes r me calls owed → All (IsNoReply me) more → Owes r me (calls ++ more) owed

@@ -12,7 +12,7 @@ use Rattle.ddt_resolver.specs.declared.step.Reply.TheVariants.{ToDatagram}
 use Rattle.ddt_resolver.specs.State.{State}
 use Rattle.ddt_resolver.specs.Step as steps
 use Rattle.ddt_resolver.specs.Step.{Ask, Hear, Tick, Step}
-use Rattle.ddt_resolver.specs.TakeUp.{IsTaken, Ignores}
+use Rattle.ddt_resolver.specs.MatchReply.{IsTaken, Ignores}
 use Rattle.ddt_resolver.specs.Act as acts
 use Rattle.ddt_resolver.specs.Act.{Act, HearStep}
 use Rattle.ddt_resolver.specs.Order.{IsStateInOrder}

@@ -12,8 +12,8 @@ use Rattle.ddt_register.specs.declared.register.Register.{Register}
 use Rattle.ddt_check.specs.Rules.{IsAccepted}
 use Rattle.ddt_check.specs.Assignment.{assignment}
 use Rattle.ddt_cache.specs.Moment.{last_moment}
-use Rattle.ddt_wires.specs.declared.call.Call.{Call}
-use Rattle.ddt_wires.specs.declared.call.Call.TheVariants.{Tried}
+use Rattle.ddt_sockets.specs.declared.wire_calls.Call.{Call}
+use Rattle.ddt_sockets.specs.declared.wire_calls.Call.TheVariants.{Tried}
 use Rattle.ddt_ecm.specs.UdpHeader.{control_port}
 use Rattle.ddt_resolver.specs.declared.results.Asked.TheVariants as asked_as
 use Rattle.ddt_resolver.specs.declared.results.AskError.{AskError}
@@ -35,34 +35,34 @@ use Rattle.ddt_resolver.specs.declared.step.Reply.{Reply}
 use Rattle.ddt_loop.proofs.ShapeLemmas as shape
 use Rattle.ddt_loop.proofs.ShapeLemmas.{Shape, of_move}
 use Rattle.ddt_sim.specs.Sound.{IsSound, IsFair as IsFairCall, IsRight, IsRightHeard, IsRightTicked, IsRightEnd as IsRightOutcome, IsRightWhy, StepsKeepSoundness, TimeKeepsSoundness}
-use Rattle.ddt_loop.specs.declared.owner.Asker.{Asker}
-use Rattle.ddt_loop.specs.declared.owner.Asker.TheVariants.{Identifier, Itr}
-use Rattle.ddt_loop.specs.declared.owner.Owner.{Owner}
-use Rattle.ddt_loop.specs.Askers.{Desk, owner_of, end_of, TakesOff, nobody, somebody, AreOwners}
-use Rattle.ddt_loop.specs.Acts.{Running, running, Asks, answered, refused, lacks_memory, Proceeds, IsAskerTold}
+use Rattle.ddt_loop.specs.declared.requester.Requester.{Requester}
+use Rattle.ddt_loop.specs.declared.requester.Requester.TheVariants.{Identifier, Itr}
+use Rattle.ddt_loop.specs.declared.requester.WaitingRequester.{WaitingRequester}
+use Rattle.ddt_loop.specs.Requesters.{Desk, waiting_for, end_of, TakesOff, nobody, somebody, AreWaiting}
+use Rattle.ddt_loop.specs.Acts.{Running, running, Asks, answered, refused, lacks_memory, Proceeds, IsRequesterTold}
 use Rattle.ddt_loop.specs.Right.{WasAsked, IsRightLoopEnd, Owes, forgotten}
-use Rattle.ddt_loop.proofs.OwnerLemmas.{of_taken}
+use Rattle.ddt_loop.proofs.WaitingLemmas.{of_taken}
 use Rattle.ddt_loop.proofs.PendingLemmas.{carried, NoneEnds, who_is_left, ask_ends_none, owners_go_on, owners_start, started, moved_owners}
 use Rattle.ddt_loop.proofs.CallLemmas.{was_asked_more, WasSent, was_sent, itr_of, itrs, itrs_push, itrs_append, owes_request, owes_told, end_set}
 
 -- ---- what is kept
 
 -- who asked for x
-abbrev pub AsksFor : List Xeid → Asker → Xeid → Type 0
+abbrev pub AsksFor : List Xeid → Requester → Xeid → Type 0
 AsksFor ids (Identifier i) x = slice_get ids i ≡ Some x
 AsksFor ids (Itr q) x = q.xeid ≡ x
 
 -- the pending lookup of one who waits is for what was asked
-abbrev pub WaitsFor : List Xeid → State → Owner → Type 0
-WaitsFor ids s o = (l : Pending) × (get s.pending o.ticket ≡ Some l) × AsksFor ids o.asker l.x
+abbrev pub WaitsFor : List Xeid → State → WaitingRequester → Type 0
+WaitsFor ids s o = (l : Pending) × (get s.pending o.ticket ≡ Some l) × AsksFor ids o.requester l.x
 
 pub record IsKept (r : Register) (me : Locator) (ids : List Xeid) (calls : List Call) (w : Running) : Type 0 where
   pub order : IsStateInOrder w.state
   pub sound : IsSound r w.state
   pub own : w.state.me ≡ me
   pub tried : (t : ℕ) (l : Pending) → get w.state.pending t ≡ Some l → WasAsked me (server me l) l.nonce l.x calls
-  pub owned : AreOwners w.state w.desk.owners
-  pub waits : All (WaitsFor ids w.state) w.desk.owners
+  pub owned : AreWaiting w.state w.desk.waiting
+  pub waits : All (WaitsFor ids w.state) w.desk.waiting
   pub ends : AllZip (IsRightLoopEnd r) ids w.desk.ends
 
 pub kept_more : {r me ids calls w : _} (more : _) → IsKept r me ids calls w → IsKept r me ids (calls ++ more) w
@@ -71,7 +71,7 @@ kept_more {me = me} {calls = calls} more k =
     record { order = k.order; sound = k.sound; own = k.own; tried = tried; owned = k.owned; waits = k.waits; ends = k.ends }
 
 -- with another desk
-pub kept_with : {r me ids calls w : _} (desk : Desk) → IsKept r me ids calls w → AreOwners w.state desk.owners → All (WaitsFor ids w.state) desk.owners
+pub kept_with : {r me ids calls w : _} (desk : Desk) → IsKept r me ids calls w → AreWaiting w.state desk.waiting → All (WaitsFor ids w.state) desk.waiting
     → AllZip (IsRightLoopEnd r) ids desk.ends → IsKept r me ids calls (running w.state desk)
 kept_with desk k owned waits ends =
     record { order = k.order; sound = k.sound; own = k.own; tried = k.tried; owned = owned; waits = waits; ends = ends }
@@ -125,17 +125,17 @@ pub record IsAct (r : Register) (s new : State) (a : Reply) : Type 0 where
   pub shape : Shape s new a
 
 -- what is left to reply to once an ask is answered
-abbrev pub left_over : Result (Option Outcome) AskError → Asker → List ItrRequest
+abbrev pub left_over : Result (Option Outcome) AskError → Requester → List ItrRequest
 left_over (Ok None) who = []
 left_over (Ok (Some o)) who = itr_of who
 left_over (Err why) who = itr_of who
 
-pub record IsAskKept (r : Register) (me : Locator) (ids : List Xeid) (calls : List Call) (w : Running) (x : Xeid) (who : Asker)
+pub record IsAskKept (r : Register) (me : Locator) (ids : List Xeid) (calls : List Call) (w : Running) (x : Xeid) (who : Requester)
     (answer : Result (Option Outcome) AskError) (tries : List Call) (new : Running) : Type 0 where
   pub kept : IsKept r me ids (calls ++ tries) new
   pub right : (o : Outcome) → answer ≡ Ok (Some o) → o ≡ assignment r (xeid_path x)
-  pub owes : (extra : List ItrRequest) → Owes r me calls (itrs w.desk.owners ++ (itr_of who ++ extra))
-      → Owes r me (calls ++ tries) (itrs new.desk.owners ++ (left_over answer who ++ extra))
+  pub owes : (extra : List ItrRequest) → Owes r me calls (itrs w.desk.waiting ++ (itr_of who ++ extra))
+      → Owes r me (calls ++ tries) (itrs new.desk.waiting ++ (left_over answer who ++ extra))
 
 module _ {r : Register} (g : Grounds r) {me ids calls w : _} (k : IsKept r me ids calls w) (now : ℕ) (le : now ≤ last_moment) where
   abbrev s : State
@@ -191,8 +191,8 @@ module _ {r : Register} (g : Grounds r) {me ids calls w : _} (k : IsKept r me id
     -- ---- who waits
 
     -- one who waits for a lookup that hasn't ended waits on
-    all_wait : (owners : List Owner) → NoneEnds a owners → All (WaitsFor ids s) owners → All (WaitsFor ids new) owners
-    all_wait owners on waits i d lt =
+    all_wait : (waiting : List WaitingRequester) → NoneEnds a waiting → All (WaitsFor ids s) waiting → All (WaitsFor ids new) waiting
+    all_wait waiting on waits i d lt =
         let here = waits i d lt in
         elim (carried o act.shape _ here.0 here.1) [
           | inl ended ↦ absurd (on i d lt ended.0 ended.1)
@@ -200,8 +200,8 @@ module _ {r : Register} (g : Grounds r) {me ids calls w : _} (k : IsKept r me id
         ]
 
     -- who is told asked for what has ended
-    told_ends : (t : ℕ) (end : Result Outcome Why) (taken : Option Asker) (rest : List Owner) → EndsRight r s t end → TakesOff t w.desk.owners rest taken
-        → IsAskerTold me end taken (record w.desk { owners = rest }) tries desk → AllZip (IsRightLoopEnd r) ids desk.ends
+    told_ends : (t : ℕ) (end : Result Outcome Why) (taken : Option Requester) (rest : List WaitingRequester) → EndsRight r s t end → TakesOff t w.desk.waiting rest taken
+        → IsRequesterTold me end taken (record w.desk { waiting = rest }) tries desk → AllZip (IsRightLoopEnd r) ids desk.ends
     told_ends t end None rest right takes told = rw told.1 k.ends
     told_ends t end (Some (Identifier i)) rest right takes told =
         let waits = of_taken takes (WaitsFor ids s) k.waits in
@@ -219,7 +219,7 @@ module _ {r : Register} (g : Grounds r) {me ids calls w : _} (k : IsKept r me id
         let left = who_is_left me w.desk a tries desk goes (WaitsFor ids s) k.owned.apart k.waits in
         let owned = owners_go_on o act.shape me w.desk tries desk (moved_owners now k.owned) goes in
         let own = act.own ∙ k.own in
-        let waits = all_wait desk.owners left.1 left.2 in
+        let waits = all_wait desk.waiting left.1 left.2 in
         let ends = ends_on (progress_of a) refl goes in
         record { order = act.order; sound = act.sound; own = own; tried = tried act.shape; owned = owned; waits = waits; ends = ends }
 
@@ -227,9 +227,9 @@ module _ {r : Register} (g : Grounds r) {me ids calls w : _} (k : IsKept r me id
 
     module _ (extra : List ItrRequest) where
       -- one is taken off the list and told
-      owes_taken : (before after : List Owner) (t : ℕ) (who : Asker) → WaitsFor ids s (owner_of t who) → (e : Result Outcome Why) → EndsRight r s t e
-          → IsAskerTold me e (Some who) (record w.desk { owners = before ++ after }) tries desk
-          → Owes r me calls (itrs before ++ (itr_of who ++ (itrs after ++ extra))) → Owes r me (calls ++ tries) (itrs desk.owners ++ extra)
+      owes_taken : (before after : List WaitingRequester) (t : ℕ) (who : Requester) → WaitsFor ids s (waiting_for t who) → (e : Result Outcome Why) → EndsRight r s t e
+          → IsRequesterTold me e (Some who) (record w.desk { waiting = before ++ after }) tries desk
+          → Owes r me calls (itrs before ++ (itr_of who ++ (itrs after ++ extra))) → Owes r me (calls ++ tries) (itrs desk.waiting ++ extra)
       owes_taken before after t (Identifier i) waits e right told owes = rw (told.0, append-nil, told.1, itrs_append before after, append_assoc) owes
       owes_taken before after t (Itr q) waits (Ok out) right told owes =
           rw (told.1, itrs_append before after, append_assoc)
@@ -237,18 +237,18 @@ module _ {r : Register} (g : Grounds r) {me ids calls w : _} (k : IsKept r me id
       owes_taken before after t (Itr q) waits (Err why) right told owes =
           rw (told.0, append-nil, told.1, itrs_append before after, append_assoc) (forgotten (itrs before) (itrs after ++ extra) q owes)
 
-      owes_end : (t : ℕ) (end : Result Outcome Why) (rest : List Owner) (taken : Option Asker) → EndsRight r s t end → TakesOff t w.desk.owners rest taken
-          → IsAskerTold me end taken (record w.desk { owners = rest }) tries desk → Owes r me calls (itrs w.desk.owners ++ extra)
-          → Owes r me (calls ++ tries) (itrs desk.owners ++ extra)
+      owes_end : (t : ℕ) (end : Result Outcome Why) (rest : List WaitingRequester) (taken : Option Requester) → EndsRight r s t end → TakesOff t w.desk.waiting rest taken
+          → IsRequesterTold me end taken (record w.desk { waiting = rest }) tries desk → Owes r me calls (itrs w.desk.waiting ++ extra)
+          → Owes r me (calls ++ tries) (itrs desk.waiting ++ extra)
       owes_end t end rest taken right (nobody none e f) told owes = let is = rw (f, e) at told in rw (is.0, append-nil, is.1) owes
       owes_end t end rest taken right (somebody before after who e f g) told owes =
           owes_taken before after t who (of_taken (somebody before after who e f refl) (WaitsFor ids s) k.waits) end right (rw (g, f) at told)
-          (rw (e, itrs_append before (owner_of t who ∷ after), append_assoc, append_assoc) at owes)
+          (rw (e, itrs_append before (waiting_for t who ∷ after), append_assoc, append_assoc) at owes)
 
-      pub owes_on : Owes r me calls (itrs w.desk.owners ++ extra) → Owes r me (calls ++ tries) (itrs desk.owners ++ extra)
+      pub owes_on : Owes r me calls (itrs w.desk.waiting ++ extra) → Owes r me (calls ++ tries) (itrs desk.waiting ++ extra)
       owes_on owes = by act.shape
         where
-          by : Shape s new a → Owes r me (calls ++ tries) (itrs desk.owners ++ extra)
+          by : Shape s new a → Owes r me (calls ++ tries) (itrs desk.waiting ++ extra)
           by (shape.stays p n q) = let g = rw q at goes in rw (g.0, append-nil, g.1) owes
           by (shape.sends t l from p n f) =
               let g = rw f at goes in
@@ -269,10 +269,10 @@ module _ {r : Register} (g : Grounds r) {me ids calls w : _} (k : IsKept r me id
       let same : x ≡ l.0.x = cc l.1 in
       record {
         kept = kept_with new.desk m (owners_start s o step me who w.desk tries new.desk (moved_owners now k.owned) starts)
-            (rw starts.1 (All-push (WaitsFor ids new.state) w.desk.owners (owner_of t who) m.waits (numbered s l.0, l.4, rw same at wants)))
+            (rw starts.1 (All-push (WaitsFor ids new.state) w.desk.waiting (waiting_for t who) m.waits (numbered s l.0, l.4, rw same at wants)))
             (rw starts.1 k.ends);
         right = λ o e. absurd (cc (e, is));
-        owes = λ extra owes. rw (is, starts.1, itrs_push w.desk.owners (owner_of t who), append_assoc)
+        owes = λ extra owes. rw (is, starts.1, itrs_push w.desk.waiting (waiting_for t who), append_assoc)
             (owes_request d tries s.next l.0.x owes (was_sent me d tries starts.0)
             (ap (λ (z : Outgoing). z.bytes) l.3 ∙ ap (request_bytes s.next l.0.x) k.own));
       }

@@ -1,4 +1,4 @@
-pub mod OwnerLemmas
+pub mod WaitingLemmas
 pub mod ShapeLemmas
 pub mod PendingLemmas
 pub mod ActLemmas

@@ -6,7 +6,7 @@ use Rattle.std.specs.FinMap.{get, len}
 use Rattle.std.proofs.lemmas.List.{length_push}
 use Rattle.std.proofs.lemmas.List.Elements.{All-push}
 use Rattle.ddt_path.specs.declared.record.Outcome.{Outcome}
-use Rattle.ddt_wires.specs.declared.call.Call.TheVariants.{Tried}
+use Rattle.ddt_sockets.specs.declared.wire_calls.Call.TheVariants.{Tried}
 use Rattle.ddt_resolver.specs.declared.results.Asked.TheVariants as asked_as
 use Rattle.ddt_resolver.specs.declared.results.Why.{Why}
 use Rattle.ddt_resolver.specs.declared.pending.Pending.{Pending}
@@ -19,13 +19,13 @@ use Rattle.ddt_resolver.specs.Order.{IsStateInOrder}
 use Rattle.ddt_resolver.specs.laws.NumberMap.{get-insert_same}
 use Rattle.ddt_resolver.specs.laws.Shape.{Move, stays, opens, sends, drops, Goes, anew, keeps, repeats, goes_on, moved_by_step}
 use Rattle.ddt_resolver.specs.laws.Order.{order_after}
-use Rattle.ddt_loop.specs.declared.owner.Asker.TheVariants.{Identifier, Itr}
-use Rattle.ddt_loop.specs.declared.owner.Owner.{Owner}
-use Rattle.ddt_loop.specs.Askers.{Desk, owner_of, with_owner, AreApart, AreOwners}
-use Rattle.ddt_loop.specs.Acts.{Starts, HasRoomFor, Proceeds, IsAskerTold}
+use Rattle.ddt_loop.specs.declared.requester.Requester.TheVariants.{Identifier, Itr}
+use Rattle.ddt_loop.specs.declared.requester.WaitingRequester.{WaitingRequester}
+use Rattle.ddt_loop.specs.Requesters.{Desk, waiting_for, with_requester, AreApart, AreWaiting}
+use Rattle.ddt_loop.specs.Acts.{Starts, HasRoomFor, Proceeds, IsRequesterTold}
 use Rattle.ddt_loop.proofs.ShapeLemmas as shape
 use Rattle.ddt_loop.proofs.ShapeLemmas.{Shape, of_move}
-use Rattle.ddt_loop.proofs.OwnerLemmas.{of_left, apart_push, few_owners, get_insert_other, get_remove_other, some_of}
+use Rattle.ddt_loop.proofs.WaitingLemmas.{of_left, apart_push, few_owners, get_insert_other, get_remove_other, some_of}
 
 -- a lookup that is pending has ended, or is pending still, for the same identifier
 pub carried : {s new a : _} → IsStateInOrder s → Shape s new a → (u : ℕ) (l : Pending) → get s.pending u ≡ Some l
@@ -49,41 +49,41 @@ carried {s} o (shape.drops t k e found p n f) u l here = elim (cases_eq u t) [
 ]
 
 -- no lookup of these ends
-abbrev pub NoneEnds : Reply → List Owner → Type 0
-NoneEnds a owners = All (λ p. (end : Result Outcome Why) → progress_of a ≡ Ends p.ticket end → ⊥) owners
+abbrev pub NoneEnds : Reply → List WaitingRequester → Type 0
+NoneEnds a waiting = All (λ p. (end : Result Outcome Why) → progress_of a ≡ Ends p.ticket end → ⊥) waiting
 
-wait_on : {s new a : _} → IsStateInOrder s → Shape s new a → (owners : List Owner) → NoneEnds a owners
-    → All (λ p. IsSome (get s.pending p.ticket)) owners → All (λ p. IsSome (get new.pending p.ticket)) owners
-wait_on o m owners on there k d lt =
+wait_on : {s new a : _} → IsStateInOrder s → Shape s new a → (waiting : List WaitingRequester) → NoneEnds a waiting
+    → All (λ p. IsSome (get s.pending p.ticket)) waiting → All (λ p. IsSome (get new.pending p.ticket)) waiting
+wait_on o m waiting on there k d lt =
     let found = some_of _ (there k d lt) in
     elim (carried o m _ found.0 found.1) [
       | inl ended ↦ absurd (on k d lt ended.0 ended.1)
       | inr still ↦ rw still.1 refl
     ]
 
-told_owners : (me end taken : _) (b : Desk) (calls : _) (after : Desk) → IsAskerTold me end taken b calls after → after.owners ≡ b.owners
+told_owners : (me end taken : _) (b : Desk) (calls : _) (after : Desk) → IsRequesterTold me end taken b calls after → after.waiting ≡ b.waiting
 told_owners me end None b calls after t = rw t.1
 told_owners me end (Some (Identifier place)) b calls after t = rw t.1
 told_owners me (Ok out) (Some (Itr q)) b calls after t = rw t.1
 told_owners me (Err why) (Some (Itr q)) b calls after t = rw t.1
 
 -- whoever is left waited before, for a lookup that hasn't ended
-pub who_is_left : (me : _) (d : Desk) (a calls : _) (after : Desk) → Proceeds me d (progress_of a) calls after → (P : Owner → Type 0)
-    → AreApart d.owners → All P d.owners → AreApart after.owners × NoneEnds a after.owners × All P after.owners
+pub who_is_left : (me : _) (d : Desk) (a calls : _) (after : Desk) → Proceeds me d (progress_of a) calls after → (P : WaitingRequester → Type 0)
+    → AreApart d.waiting → All P d.waiting → AreApart after.waiting × NoneEnds a after.waiting × All P after.waiting
 who_is_left me d a calls after goes P apart all = by (progress_of a) refl goes
   where
-    by : (p : _) → progress_of a ≡ p → Proceeds me d p calls after → AreApart after.owners × NoneEnds a after.owners × All P after.owners
+    by : (p : _) → progress_of a ≡ p → Proceeds me d p calls after → AreApart after.waiting × NoneEnds a after.waiting × All P after.waiting
     by Stays is g = rw g.1 (apart, λ i e lt end f. cc (is, f), all)
     by (Sends t out) is g = rw g.1 (apart, λ i e lt end f. cc (is, f), all)
     by (Ends t end) is g =
         let left = of_left g.takes P apart all in
         rw (told_owners me end g.taken _ calls after g.told) (left.0, λ i e lt end2 f. left.1 i e lt (cc (is, f)), left.2)
 
-pub owners_go_on : {s new a : _} → IsStateInOrder s → Shape s new a → (me : _) (d : Desk) (calls : _) (after : Desk) → AreOwners s d.owners
-    → Proceeds me d (progress_of a) calls after → AreOwners new after.owners
+pub owners_go_on : {s new a : _} → IsStateInOrder s → Shape s new a → (me : _) (d : Desk) (calls : _) (after : Desk) → AreWaiting s d.waiting
+    → Proceeds me d (progress_of a) calls after → AreWaiting new after.waiting
 owners_go_on {s} {a = a} o m me d calls after owned goes =
     let left = who_is_left me d a calls after goes (λ p. IsSome (get s.pending p.ticket)) owned.apart owned.pending in
-    record { apart = left.0; pending = wait_on o m after.owners left.1 left.2 }
+    record { apart = left.0; pending = wait_on o m after.waiting left.1 left.2 }
 
 -- ---- an ask
 
@@ -113,25 +113,25 @@ module _ (s : State) (o : IsStateInOrder s) {x new a : _} (step : Step s (Ask x)
   move : Move s (Ask x) new (ToAsk (Ok a))
   move = (moved_by_step s o (Ask x) new (ToAsk (Ok a)) step).move
 
-  wait_still : (owners : List Owner) → AreOwners s owners → All (λ p. IsSome (get new.pending p.ticket)) owners
-  wait_still owners owned = wait_on o (of_move move) owners (λ k p lt end. ask_ends_none (Ok a) _ end) owned.pending
+  wait_still : (waiting : List WaitingRequester) → AreWaiting s waiting → All (λ p. IsSome (get new.pending p.ticket)) waiting
+  wait_still waiting owned = wait_on o (of_move move) waiting (λ k p lt end. ask_ends_none (Ok a) _ end) owned.pending
 
   older : (t : ℕ) → IsSome (get s.pending t) → t ≡ s.next → ⊥
   older t some same =
       let found = some_of _ some in let w = o.lookups t found.0 found.1 in absurd (omega (arith, w.ticket, w.nonce, same))
 
-  pub owners_start : (me who : _) (d : Desk) (calls : _) (after : Desk) → AreOwners s d.owners → Starts me who d a calls after → AreOwners new after.owners
+  pub owners_start : (me who : _) (d : Desk) (calls : _) (after : Desk) → AreWaiting s d.waiting → Starts me who d a calls after → AreWaiting new after.waiting
   owners_start me who d calls after owned starts = by a refl starts
     where
-      by : (b : _) → a ≡ b → Starts me who d b calls after → AreOwners new after.owners
-      by (asked_as.Answer out) is e = rw e.1 (record { apart = owned.apart; pending = wait_still d.owners owned })
+      by : (b : _) → a ≡ b → Starts me who d b calls after → AreWaiting new after.waiting
+      by (asked_as.Answer out) is e = rw e.1 (record { apart = owned.apart; pending = wait_still d.waiting owned })
       by (asked_as.Sent t out) is e = let l = started (rw is at move) in rw e.1 (record {
-        apart = apart_push d.owners (owner_of t who) owned.apart (λ k p lt same. older _ (owned.pending k p lt) (cc (same, l.2)));
-        pending = All-push (λ p. IsSome (get new.pending p.ticket)) d.owners (owner_of t who) (wait_still d.owners owned)
+        apart = apart_push d.waiting (waiting_for t who) owned.apart (λ k p lt same. older _ (owned.pending k p lt) (cc (same, l.2)));
+        pending = All-push (λ p. IsSome (get new.pending p.ticket)) d.waiting (waiting_for t who) (wait_still d.waiting owned)
             (rw l.4 refl);
       })
 
-  pub room_for : (d : Desk) → AreOwners s d.owners → HasRoomFor a d
+  pub room_for : (d : Desk) → AreWaiting s d.waiting → HasRoomFor a d
   room_for d owned = by a refl
     where
       by : (b : _) → a ≡ b → HasRoomFor b d
@@ -139,11 +139,11 @@ module _ (s : State) (o : IsStateInOrder s) {x new a : _} (step : Step s (Ask x)
       by (asked_as.Sent t out) is =
           let first = Identifier 0 in
           let first_try = Tried s.me out.to out.port out.bytes (Ok tt) ∷ [] in
-          let now = owners_start s.me first d first_try (with_owner d t first) owned (rw is (((refl, refl, refl, refl), tt), refl)) in
-          let few = few_owners new.pending (d.owners ++ owner_of t first ∷ []) now.apart now.pending in
+          let now = owners_start s.me first d first_try (with_requester d t first) owned (rw is (((refl, refl, refl, refl), tt), refl)) in
+          let few = few_owners new.pending (d.waiting ++ waiting_for t first ∷ []) now.apart now.pending in
           let most : len new.pending ≤ 1024 = (order_after s (Ask x) new (ToAsk (Ok a)) o step).few in
-          omega (arith, few, length_push d.owners (owner_of t first))
+          omega (arith, few, length_push d.waiting (waiting_for t first))
 
 -- the passing of time changes nothing of it
-pub moved_owners : {s owners : _} (now : ℕ) → AreOwners s owners → AreOwners (moved now s) owners
+pub moved_owners : {s waiting : _} (now : ℕ) → AreWaiting s waiting → AreWaiting (moved now s) waiting
 moved_owners now owned = record { apart = owned.apart; pending = owned.pending }

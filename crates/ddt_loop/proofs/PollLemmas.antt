@@ -2,12 +2,12 @@
 use Rattle.std.proofs.Common.{◌≡◌, ℕ, zero, suc, ◌+◌, inl, inr, List, [], ◌∷◌, ◌++◌, Some, None, Ok, Err, refl, arith}
 use Rattle.std.specs.Prelude.{count_by, cond}
 use Rattle.std.proofs.lemmas.List.Sums.{sum_by-append}
-use Rattle.ddt_wires.specs.declared.call.Call.{Call, TheVariants.Received, TheVariants.Tried}
-use Rattle.ddt_wires.specs.Turns.{AreTried}
+use Rattle.ddt_sockets.specs.declared.wire_calls.Call.{Call, TheVariants.Received, TheVariants.Tried}
+use Rattle.ddt_sockets.specs.Turns.{AreTried}
 use Rattle.ddt_resolver.specs.declared.results.Asked.TheVariants as asked_as
 use Rattle.ddt_resolver.specs.declared.step.Progress.TheVariants.{Stays, Sends, Ends}
-use Rattle.ddt_loop.specs.declared.owner.Asker.TheVariants.{Identifier, Itr}
-use Rattle.ddt_loop.specs.Acts.{IsToldItr, Asks, answered, refused, lacks_memory, IsToldAtOnce, IsAskerTold, Proceeds, HearsOrTicks, does, fails}
+use Rattle.ddt_loop.specs.declared.requester.Requester.TheVariants.{Identifier, Itr}
+use Rattle.ddt_loop.specs.Acts.{IsToldItr, Asks, answered, refused, lacks_memory, IsToldAtOnce, IsRequesterTold, Proceeds, HearsOrTicks, does, fails}
 use Rattle.ddt_loop.specs.Polls.{IsPacketTaken, asks, no_request, hears, other_port, IsNoPacket, no_packet, came, PollsServer, none_there, served, out_of_memory, Polls}
 use Rattle.ddt_loop.specs.Turns.{HaveAsked, no_ask, one_ask, HaveTurned, no_turn, one_turn}
 use Rattle.ddt_loop.specs.Right.{is_poll}
@@ -39,7 +39,7 @@ at_once me (Ok (Some o)) q calls is = told me o q calls is
 at_once me (Ok None) q calls none = rw none
 at_once me (Err why) q calls none = rw none
 
-settling : (me end taken d calls new : _) → IsAskerTold me end taken d calls new → polls_in calls ≡ 0
+settling : (me end taken d calls new : _) → IsRequesterTold me end taken d calls new → polls_in calls ≡ 0
 settling me end None d calls new is = rw is.0
 settling me end (Some (Identifier place)) d calls new is = rw is.0
 settling me (Ok o) (Some (Itr q)) d calls new is = told me o q calls is.0

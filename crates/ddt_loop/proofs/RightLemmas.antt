@@ -11,14 +11,14 @@ use Rattle.ddt_register.specs.declared.register.Register.{Register}
 use Rattle.ddt_check.specs.Assignment.{assignment}
 use Rattle.ddt_config.specs.Table.{Outline}
 use Rattle.ddt_cache.specs.Moment.{last_moment}
-use Rattle.ddt_wires.specs.declared.call.Call.{Call}
-use Rattle.ddt_wires.specs.declared.call.Call.TheVariants.{Received}
+use Rattle.ddt_sockets.specs.declared.wire_calls.Call.{Call}
+use Rattle.ddt_sockets.specs.declared.wire_calls.Call.TheVariants.{Received}
 use Rattle.ddt_resolver.specs.declared.itr_messages.ItrRequest.{ItrRequest}
 use Rattle.ddt_resolver.specs.Order.{IsStateInOrder}
 use Rattle.ddt_resolver.specs.State.{State, moved, server}
 use Rattle.ddt_sim.specs.Sound.{IsSound, IsFair as IsFairCall, IsFairDatagram}
-use Rattle.ddt_loop.specs.declared.owner.Asker.TheVariants.{Identifier, Itr}
-use Rattle.ddt_loop.specs.Askers.{AreOwners, end_of_ask, opening_desk}
+use Rattle.ddt_loop.specs.declared.requester.Requester.TheVariants.{Identifier, Itr}
+use Rattle.ddt_loop.specs.Requesters.{AreWaiting, end_of_ask, opening_desk}
 use Rattle.ddt_loop.specs.Acts.{Running, running, AsksAt, AsksForItr, IsToldAtOnce, HearsOrTicks, does, fails}
 use Rattle.ddt_loop.specs.Polls.{IsPacketTaken, asks, no_request, hears, other_port, IsNoPacket, no_packet, came, PollsServer, none_there, served, out_of_memory, Polls}
 use Rattle.ddt_loop.specs.Turns.{HaveAsked, no_ask, one_ask, HaveTurned, no_turn, one_turn}
@@ -34,7 +34,7 @@ nothing_tried me at call (inr is) = rw is.1 tt
 -- after some calls the resolver is right, and these ITRs may be replied to: those who wait, and these others
 pub record IsRightAfter (r : Register) (me : Locator) (ids : List Xeid) (extra : List ItrRequest) (calls : List Call) (w : Running) : Type 0 where
   pub kept : IsKept r me ids calls w
-  pub owes : Owes r me calls (itrs w.desk.owners ++ extra)
+  pub owes : Owes r me calls (itrs w.desk.waiting ++ extra)
 
 right_end : (r x answer : _) → ((o : _) → answer ≡ Ok (Some o) → o ≡ assignment r (xeid_path x)) → IsRightLoopEnd r x (end_of_ask answer)
 right_end r x (Ok (Some o)) right = right o refl
@@ -93,13 +93,13 @@ module _ {r : Register} (g : Grounds r) {me : Locator} {ids : List Xeid} {extra 
   right_asks le i no_ask = i
   right_asks {now} le i (one_ask x more new so_far is act) = right_ask (right_asks le i so_far) now le is act
 
-  right_itr : {calls w : _} → IsKept r me ids calls w → (now : ℕ) → now ≤ last_moment → (q : ItrRequest) → Owes r me calls (itrs w.desk.owners ++ q ∷ extra)
+  right_itr : {calls w : _} → IsKept r me ids calls w → (now : ℕ) → now ≤ last_moment → (q : ItrRequest) → Owes r me calls (itrs w.desk.waiting ++ q ∷ extra)
       → {tries new : _} → AsksForItr me now q w tries new → IsRightAfter r me ids extra (calls ++ tries) new
   right_itr {calls} kept now le q owes {new = new} act =
       let k = kept_ask g kept now le refl act.asks in
       let after : IsRightAfter r me ids extra ((calls ++ act.asking) ++ act.telling) new = record {
         kept = kept_more act.telling k.kept;
-        owes = told_at_once (itrs new.desk.owners) extra q act.answer act.telling k.right act.tells (k.owes extra owes);
+        owes = told_at_once (itrs new.desk.waiting) extra q act.answer act.telling k.right act.tells (k.owes extra owes);
       } in rw act.calls_are (rw append_assoc at after)
 
   -- ---- a datagram and a tick
@@ -124,7 +124,7 @@ module _ {r : Register} (g : Grounds r) {me : Locator} {ids : List Xeid} {extra 
       after = right_other (Received me room (Ok (Some p)) bytes) tt i
 
       by : IsPacketTaken me now p bytes w rest new → IsRightAfter r me ids extra ((calls ++ Received me room (Ok (Some p)) bytes ∷ []) ++ rest) new
-      by (asks encapsulated q is act) = right_itr after.kept now le q (asked (itrs w.desk.owners) extra room p bytes q i.owes is) act
+      by (asks encapsulated q is act) = right_itr after.kept now le q (asked (itrs w.desk.waiting) extra room p bytes q i.owes is) act
       by (no_request encapsulated not none same) = rw (none, append-nil (calls ++ Received me room (Ok (Some p)) bytes ∷ []), same) after
       by (hears plain port act) = right_resolves after now le (fair_datagram calls rest now room p bytes i.kept fair port) act
       by (other_port plain port none same) = rw (none, append-nil (calls ++ Received me room (Ok (Some p)) bytes ∷ []), same) after
@@ -154,7 +154,7 @@ module _ {r : Register} (g : Grounds r) {me : Locator} {ids : List Xeid} {extra 
 pub right_at_first : (r me ids : _) (old : State) → IsStateInOrder old → IsSound r old → ((t : ℕ) → get old.pending t ≡ None) → old.me ≡ me
     → IsRightAfter r me ids [] [] (running old (opening_desk ids))
 right_at_first r me ids old order sound rest own =
-    let owned : AreOwners old [] = record { apart = tt; pending = All-nil (λ o. IsSome (get old.pending o.ticket)) } in
+    let owned : AreWaiting old [] = record { apart = tt; pending = All-nil (λ o. IsSome (get old.pending o.ticket)) } in
     let tried : (t : ℕ) (l : _) → get old.pending t ≡ Some l → WasAsked me (server me l) l.nonce l.x [] = λ t l here. absurd (cc (rest t, here)) in
     let kept : IsKept r me ids [] (running old (opening_desk ids)) =
     record { order = order; sound = sound; own = own; tried = tried; owned = owned; waits = All-nil (WaitsFor ids old); ends = open_ends r ids } in

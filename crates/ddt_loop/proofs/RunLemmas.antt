@@ -6,9 +6,9 @@ use Rattle.std.proofs.lemmas.List.Elements.{All-nil, All-push}
 use Rattle.ddt_path.specs.declared.locator.Locator.{Locator}
 use Rattle.ddt_register.specs.declared.register.Register.{Register}
 use Rattle.ddt_cache.specs.Moment.{last_moment}
-use Rattle.ddt_wires.specs.declared.call.Call.{Call}
-use Rattle.ddt_wires.specs.declared.call.Call.TheVariants.{Received, Tried}
-use Rattle.ddt_wires.specs.declared.call.Packet.{Packet}
+use Rattle.ddt_sockets.specs.declared.wire_calls.Call.{Call}
+use Rattle.ddt_sockets.specs.declared.wire_calls.Call.TheVariants.{Received, Tried}
+use Rattle.ddt_sockets.specs.declared.wire_calls.Packet.{Packet}
 use Rattle.ddt_ecm.specs.UdpHeader.{control_port}
 use Rattle.ddt_sim.specs.Sound.{IsSound, IsFair as IsFairCall, IsFairDatagram, StepsKeepSoundness, HasteningKeepsSoundness, TimeKeepsSoundness, ForgettingKeepsSoundness}
 use Rattle.ddt_sim.specs.Inside.{StartsAreTrue, HonestRepliesAreInside, StepsKeepStarts, HasteningKeepsStarts, ForgettingKeepsStarts}
@@ -26,8 +26,8 @@ use Rattle.ddt_resolver.specs.Front.{IsItrRequest}
 use Rattle.ddt_resolver.specs.Within.{whole, cut, IsWide}
 use Rattle.ddt_resolver.specs.laws.Order.{order_moved, order_hastened, order_forgotten}
 use Rattle.ddt_resolver.specs.laws.Shape.{moved_by_step}
-use Rattle.ddt_loop.specs.declared.came.Ended.{Ended}
-use Rattle.ddt_loop.specs.Askers.{opening_desk}
+use Rattle.ddt_loop.specs.declared.packet_outcome.Ended.{Ended}
+use Rattle.ddt_loop.specs.Requesters.{opening_desk}
 use Rattle.ddt_loop.specs.Acts.{Running, running, Asks, answered, refused, lacks_memory, HearsOrTicks, does as steps, fails as lacks, Hastens, does, fails, request_tried}
 use Rattle.ddt_loop.specs.Polls.{IsPacketTaken, asks, no_request, hears, other_port}
 use Rattle.ddt_loop.specs.Sharing.{Sharer, MayShare, TellsSharers, wait_on, told}
@@ -76,7 +76,7 @@ all_forgotten (q ∷ owed) o = all_forgotten owed (forgotten [] owed q o)
 right_renewed : {r me calls sharers w : _} (new : State) → BeginsSound r me new → RunsRight r me calls sharers w → RunsRight r me calls [] (running new (opening_desk []))
 right_renewed {calls = calls} {sharers = sharers} {w = w} new b i =
     let first = right_begin new b in record {
-      right = record { kept = kept_more calls first.right.kept; owes = all_forgotten (itrs w.desk.owners ++ requests sharers) i.right.owes };
+      right = record { kept = kept_more calls first.right.kept; owes = all_forgotten (itrs w.desk.waiting ++ requests sharers) i.right.owes };
       starts = first.starts;
       share = first.share;
     }
@@ -119,7 +119,7 @@ module _ {r : Register} (g : RunGrounds r) {me : Locator} where
         let rights = λ (n : ℕ) (d : Sharer) (lt : _). right_for r s e.ticket e.end h.0 h.2 h.1 _ (share_moved n d lt) in (
           record {
             kept = kept_more tells right.kept;
-            owes = told_all calls2 (itrs new.desk.owners) e.ticket e.end sharers tells rights are right.owes;
+            owes = told_all calls2 (itrs new.desk.waiting) e.ticket e.end sharers tells rights are right.owes;
           },
           all_left (Shares new.state) e.ticket sharers (all_share move sharers share_moved),
         )
@@ -155,13 +155,13 @@ module _ {r : Register} (g : RunGrounds r) {me : Locator} where
     abbrev EndsRightly : Ended → Type 0
     EndsRightly e = (l : Pending) × (get s.pending e.ticket ≡ Some l) × EndsRight r s e.ticket e.end
 
-    ends_by_step : {call new after : _} (e : Ended) → IsFairCall r s call → EndsBy call s new w.desk.owners after e → EndsRightly e
+    ends_by_step : {call new after : _} (e : Ended) → IsFairCall r s call → EndsBy call s new w.desk.waiting after e → EndsRightly e
     ends_by_step {call} {new} e fair by =
         let both = g.steps.laws r s call new by.reply g.steps.accepted o sound fair by.step in
         let l = was_pending (of_move (moved_by_step s o call new by.reply by.step).move) by.ends in
         (l.0, l.1, right_end r s call by.reply e.ticket e.end both.1 by.ends)
 
-    ends_by_haste : {nonce new after : _} (e : Ended) → EndsByHaste nonce s new w.desk.owners after e → EndsRightly e
+    ends_by_haste : {nonce new after : _} (e : Ended) → EndsByHaste nonce s new w.desk.waiting after e → EndsRightly e
     ends_by_haste {nonce} {new} e by =
         let both = g.hastening r s nonce new by.ticked g.steps.accepted o sound by.step in
         let l = was_pending (of_haste by.step) by.ends in
@@ -227,11 +227,11 @@ module _ {r : Register} (g : RunGrounds r) {me : Locator} where
     reply_ends p heard new (Some f) fair ends e is =
         let by : EndsByReply now p heard w new f = ends in let same : f ≡ e = cc is in rw same at (ends_by_step f (fair by.port) by.ends)
 
-    tick_ends : (new : State) (after : _) (ended : Option Ended) → MayEndBy (EndsBy Tick s new w.desk.owners after) ended → (e : Ended) → ended ≡ Some e → EndsRightly e
+    tick_ends : (new : State) (after : _) (ended : Option Ended) → MayEndBy (EndsBy Tick s new w.desk.waiting after) ended → (e : Ended) → ended ≡ Some e → EndsRightly e
     tick_ends new after None ends e is = absurd (cc is)
     tick_ends new after (Some f) ends e is = let same : f ≡ e = cc is in rw same at (ends_by_step f tt ends)
 
-    haste_ends : (nonce : ℕ) (new : State) (after : _) (ended : Option Ended) → MayEndBy (EndsByHaste nonce s new w.desk.owners after) ended → (e : Ended) → ended ≡ Some e → EndsRightly e
+    haste_ends : (nonce : ℕ) (new : State) (after : _) (ended : Option Ended) → MayEndBy (EndsByHaste nonce s new w.desk.waiting after) ended → (e : Ended) → ended ≡ Some e → EndsRightly e
     haste_ends nonce new after None ends e is = absurd (cc is)
     haste_ends nonce new after (Some f) ends e is = let same : f ≡ e = cc is in rw same at (ends_by_haste f ends)
 
@@ -267,7 +267,7 @@ module _ {r : Register} (g : RunGrounds r) {me : Locator} where
       → RunsRight r me calls js w → RunsRight r me (calls ++ Received me room (Ok (Some p)) bytes ∷ []) (js ++ j ∷ []) w
   right_shared {calls} {js} {w} room p bytes j asks_it may i =
       let more = calls ++ Received me room (Ok (Some p)) bytes ∷ [] in
-      let before = itrs w.desk.owners ++ requests js in
+      let before = itrs w.desk.waiting ++ requests js in
       let front : Owes r me calls (before ++ []) = rw append-nil i.right.owes in
       let owed : Owes r me more (before ++ j.request ∷ []) = asked before [] room p bytes j.request front asks_it in record {
         right = record {
@@ -275,7 +275,7 @@ module _ {r : Register} (g : RunGrounds r) {me : Locator} where
           owes = rw (requests_push js j) (rw append_assoc at owed);
         };
         starts = i.starts;
-        share = All-push (Shares w.state) js j i.share (may_share w.desk.owners j i.right.kept.order i.right.kept.waits may);
+        share = All-push (Shares w.state) js j i.share (may_share w.desk.waiting j i.right.kept.order i.right.kept.waits may);
       }
 
   right_passed : {calls : _} {js : List Sharer} {w : Running} (call : Call) → IsNoReply me call → RunsRight r me calls js w → RunsRight r me (calls ++ call ∷ []) js w
@@ -301,11 +301,11 @@ module _ {r : Register} (g : RunGrounds r) {me : Locator} where
   right_run first (ticked {calls = before} now tries ended tells left new so_far le ticks ends telling) fair =
       let i = right_run first so_far (fair_front r me before _ fair) in
       with_tells before tries tells (starts_heard i now le ticks)
-      (tells_on i now le ended tells left (moves_heard i now le ticks).1 (tick_ends i now le new.state new.desk.owners ended ends) telling (right_resolves g.steps i.right now le tt ticks))
+      (tells_on i now le ended tells left (moves_heard i now le ticks).1 (tick_ends i now le new.state new.desk.waiting ended ends) telling (right_resolves g.steps i.right now le tt ticks))
   right_run first (hastened {calls = before} now nonce tries ended tells left new so_far le hastens ends telling) fair =
       let i = right_run first so_far (fair_front r me before _ fair) in
       with_tells before tries tells (starts_hastened i now le hastens)
-      (tells_on i now le ended tells left (moves_hastened i now le hastens).1 (haste_ends i now le nonce new.state new.desk.owners ended ends) telling (right_hastens i now le hastens))
+      (tells_on i now le ended tells left (moves_hastened i now le hastens).1 (haste_ends i now le nonce new.state new.desk.waiting ended ends) telling (right_hastens i now le hastens))
   right_run first (shared {calls = before} {sharers = js} {w = w} room p bytes j so_far asks_it may) fair =
       right_shared room p bytes j asks_it may (right_run first so_far (fair_front r me before _ fair))
   right_run first (waited now so_far le) fair = right_waited (right_run first so_far fair) now le
@@ -328,4 +328,4 @@ fair_runs laws hastening time inside starts hastened_starts forgetting forgotten
       forgotten_starts = forgotten_starts;
     } in
     let is = right_run g (right_begin start b) run fair in
-    ((itrs w.desk.owners ++ requests sharers, is.right.owes), is.right.kept.sound)
+    ((itrs w.desk.waiting ++ requests sharers, is.right.owes), is.right.kept.sound)

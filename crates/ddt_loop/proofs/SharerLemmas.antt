@@ -9,7 +9,7 @@ use Rattle.ddt_path.specs.declared.record.Outcome.{Outcome}
 use Rattle.ddt_path.specs.Path.{xeid_path}
 use Rattle.ddt_register.specs.declared.register.Register.{Register}
 use Rattle.ddt_check.specs.Assignment.{assignment}
-use Rattle.ddt_wires.specs.declared.call.Call.{Call}
+use Rattle.ddt_sockets.specs.declared.wire_calls.Call.{Call}
 use Rattle.ddt_resolver.specs.declared.itr_messages.ItrRequest.{ItrRequest}
 use Rattle.ddt_resolver.specs.declared.pending.Pending.{Pending}
 use Rattle.ddt_resolver.specs.declared.results.Why.{Why}
@@ -17,9 +17,9 @@ use Rattle.ddt_resolver.specs.State.{State, numbered}
 use Rattle.ddt_resolver.specs.Order.{IsStateInOrder}
 use Rattle.ddt_resolver.specs.laws.NumberMap.{found_insert, found_remove}
 use Rattle.ddt_loop.specs.Ends.{IsToldEnd}
-use Rattle.ddt_loop.specs.declared.owner.Asker.TheVariants.{Itr}
-use Rattle.ddt_loop.specs.declared.owner.Owner.{Owner}
-use Rattle.ddt_loop.specs.Askers.{owner_of}
+use Rattle.ddt_loop.specs.declared.requester.Requester.TheVariants.{Itr}
+use Rattle.ddt_loop.specs.declared.requester.WaitingRequester.{WaitingRequester}
+use Rattle.ddt_loop.specs.Requesters.{waiting_for}
 use Rattle.ddt_loop.specs.Sharing.{Sharer, IsAskedBy, sharing, not_sharing, AreToldEnd, nobody, one}
 use Rattle.ddt_loop.specs.Right.{Owes, forgotten}
 use Rattle.ddt_loop.proofs.CallLemmas.{owes_told}
@@ -32,9 +32,9 @@ pub record Shares (s : State) (j : Sharer) : Type 0 where
   pub given : j.ticket < s.next
   pub same : (l : Pending) → get s.pending j.ticket ≡ Some l → l.x ≡ j.request.xeid
 
-pub may_share : {s : State} (owners : List Owner) (j : Sharer) → IsStateInOrder s → All (WaitsFor [] s) owners → IsAskedBy owners j.ticket j.request.xeid → Shares s j
-may_share {s} owners j o waits m =
-    let there = All-contains (WaitsFor [] s) owners (owner_of j.ticket (Itr m.0)) waits m.1 in
+pub may_share : {s : State} (waiting : List WaitingRequester) (j : Sharer) → IsStateInOrder s → All (WaitsFor [] s) waiting → IsAskedBy waiting j.ticket j.request.xeid → Shares s j
+may_share {s} waiting j o waits m =
+    let there = All-contains (WaitsFor [] s) waiting (waiting_for j.ticket (Itr m.0)) waits m.1 in
     let w = o.lookups j.ticket there.0 there.1 in record {
       given = omega (arith, w.ticket, w.nonce);
       same = λ l here. ap (λ (k : Pending). k.x) (same_Some l there.0 (sym here ∙ there.1)) ∙ sym there.2 ∙ m.2;

@@ -5,15 +5,15 @@ use Rattle.std.specs.List.{AllZip}
 use Rattle.ddt_path.specs.declared.locator.Locator.{Locator}
 use Rattle.ddt_path.specs.declared.xeid.Xeid.{Xeid}
 use Rattle.ddt_config.specs.Table.{Outline}
-use Rattle.ddt_wires.specs.declared.call.Call.{Call}
-use Rattle.ddt_wires.specs.Calls.{RecordsCalls}
+use Rattle.ddt_sockets.specs.declared.wire_calls.Call.{Call}
+use Rattle.ddt_sockets.specs.Calls.{RecordsCalls}
 use Rattle.ddt_resolver.specs.Order.{IsStateInOrder}
 use Rattle.ddt_resolver.specs.State.{State}
 use Rattle.ddt_sim.specs.Sound.{IsSound, StepsKeepSoundness, TimeKeepsSoundness}
-use Rattle.ddt_loop.specs.declared.ends.LoopEnd.{LoopEnd}
+use Rattle.ddt_loop.specs.declared.lookup_end.LoopEnd.{LoopEnd}
 use Rattle.ddt_cache.specs.Moment.{last_moment}
-use Rattle.ddt_wires.specs.laws.Tell.{tells_both}
-use Rattle.ddt_loop.specs.Askers.{opening_desk, has_unresolved}
+use Rattle.ddt_sockets.specs.laws.Tell.{tells_both}
+use Rattle.ddt_loop.specs.Requesters.{opening_desk, has_unresolved}
 use Rattle.ddt_loop.specs.Acts.{Running, running}
 use Rattle.ddt_loop.specs.Turns.{HaveAsked, TurnsWithin, IsLoop}
 use Rattle.ddt_loop.specs.Right.{IsRightLoopEnd, is_poll, RepliesAreOwed, WhenTold, WhenFair}
@@ -99,7 +99,7 @@ module _ {unread read before after servers old me sockets ids turns ends new : _
 
     pub replies : WhenFair servers old me sockets before after (λ r calls. RepliesAreOwed r me calls)
     replies r compiled starts own elsewhere earlier calls e f fair =
-        (itrs run.loop.last.desk.owners ++ [], (right r compiled starts own elsewhere earlier calls e f fair).owes)
+        (itrs run.loop.last.desk.waiting ++ [], (right r compiled starts own elsewhere earlier calls e f fair).owes)
 
     pub stays_sound : WhenFair servers old me sockets before after (λ r calls. IsSound r new)
     stays_sound r compiled starts own elsewhere earlier calls e f fair =

@@ -6,8 +6,8 @@ use Rattle.std.specs.FinMap.{get}
 use Rattle.ddt_path.specs.declared.locator.Locator.{Locator}
 use Rattle.ddt_path.specs.declared.record.Outcome.{Outcome}
 use Rattle.ddt_path.specs.declared.xeid.Xeid.{Xeid}
-use Rattle.ddt_wires.specs.declared.call.Call.{Call}
-use Rattle.ddt_wires.specs.Turns.{Outgoing, AreTried}
+use Rattle.ddt_sockets.specs.declared.wire_calls.Call.{Call}
+use Rattle.ddt_sockets.specs.Turns.{Outgoing, AreTried}
 use Rattle.ddt_resolver.specs.declared.results.Outgoing.{Outgoing as Sending}
 use Rattle.ddt_resolver.specs.declared.results.Asked.{Asked}
 use Rattle.ddt_resolver.specs.declared.results.Asked.TheVariants as asked_as
@@ -23,17 +23,17 @@ use Rattle.ddt_resolver.specs.declared.results.Ticked.{Ticked}
 use Rattle.ddt_resolver.specs.TickStep.{HastenStep, HastenWants}
 use Rattle.ddt_resolver.specs.Front.{reply_to_itr}
 use Rattle.ddt_ecm.specs.UdpHeader.{control_port}
-use Rattle.ddt_wires.specs.declared.call.Call.TheVariants.{Tried}
-use Rattle.ddt_wires.specs.declared.call.NetFault.{NetFault}
+use Rattle.ddt_sockets.specs.declared.wire_calls.Call.TheVariants.{Tried}
+use Rattle.ddt_sockets.specs.declared.wire_calls.NetFault.{NetFault}
 use Rattle.ddt_resolver.specs.declared.pending.Pending.{Pending}
 use Rattle.ddt_resolver.specs.Table.{IsUnknown}
 use Rattle.ddt_resolver.specs.State.{State, moved, most_pending, server, request_bytes}
 use Rattle.ddt_resolver.specs.Step as resolver
 use Rattle.ddt_resolver.specs.Step.{Ask, Step, Wants, progress_of}
-use Rattle.ddt_loop.specs.declared.owner.Asker.{Asker}
-use Rattle.ddt_loop.specs.declared.owner.Asker.TheVariants.{Identifier, Itr}
-use Rattle.ddt_loop.specs.declared.owner.Owner.{Owner}
-use Rattle.ddt_loop.specs.Askers.{Desk, with_owner, with_end, end_of, end_of_ask, TakesOff}
+use Rattle.ddt_loop.specs.declared.requester.Requester.{Requester}
+use Rattle.ddt_loop.specs.declared.requester.Requester.TheVariants.{Identifier, Itr}
+use Rattle.ddt_loop.specs.declared.requester.WaitingRequester.{WaitingRequester}
+use Rattle.ddt_loop.specs.Requesters.{Desk, with_requester, with_end, end_of, end_of_ask, TakesOff}
 
 -- a resolver, and who waits for its lookups
 pub record Running : Type 0 where
@@ -77,19 +77,19 @@ remembered (asked_as.Answer o) = Some o
 remembered (asked_as.Sent t d) = None
 
 -- nothing more where the outcome is remembered; else the first request is tried, and whoever asked waits
-abbrev pub Starts : Locator → Asker → Desk → Asked → List Call → Desk → Type 0
+abbrev pub Starts : Locator → Requester → Desk → Asked → List Call → Desk → Type 0
 Starts me who d (asked_as.Answer o) calls new = (calls ≡ []) × (new ≡ d)
-Starts me who d (asked_as.Sent t e) calls new = IsSent me e calls × (new ≡ with_owner d t who)
+Starts me who d (asked_as.Sent t e) calls new = IsSent me e calls × (new ≡ with_requester d t who)
 
 -- there is room for one more who waits
 abbrev pub HasRoomFor : Asked → Desk → Type 0
 HasRoomFor (asked_as.Answer o) d = Unit {0}
-HasRoomFor (asked_as.Sent t e) d = length d.owners < most_pending
+HasRoomFor (asked_as.Sent t e) d = length d.waiting < most_pending
 
 -- Somebody asks for x at a moment. `answered`: the outcome is remembered, or a lookup starts. `refused`: too many are
 -- pending, or no nonce is left. `lacks_memory`: a lookup would start, but it is out of
 -- memory.
-pub data Asks (me : Locator) (now : ℕ) (x : Xeid) (who : Asker) (w : Running)
+pub data Asks (me : Locator) (now : ℕ) (x : Xeid) (who : Requester) (w : Running)
     (answer : Result (Option Outcome) AskError) (calls : List Call) (new : Running) : Type 0 where
   answered : (a : Asked) → Step (moved now w.state) (Ask x) new.state (ToAsk (Ok a))
       → Starts me who w.desk a calls new.desk → answer ≡ Ok (remembered a) → Asks me now x who w answer calls new
@@ -126,25 +126,25 @@ pub record AsksForItr (me : Locator) (now : ℕ) (q : ItrRequest) (w : Running) 
 
 -- Who waited for a lookup that has ended is told: an identifier has its end, and an ITR is sent the negative Map-Reply
 -- to an outcome, if there is one.
-abbrev pub IsAskerTold : Locator → Result Outcome Why → Option Asker → Desk → List Call → Desk → Type 0
-IsAskerTold me end None d calls new = (calls ≡ []) × (new ≡ d)
-IsAskerTold me end (Some (Identifier place)) d calls new = (calls ≡ []) × (new ≡ with_end d place (end_of end))
-IsAskerTold me (Ok o) (Some (Itr q)) d calls new = IsToldItr me o q calls × (new ≡ d)
-IsAskerTold me (Err why) (Some (Itr q)) d calls new = (calls ≡ []) × (new ≡ d)
+abbrev pub IsRequesterTold : Locator → Result Outcome Why → Option Requester → Desk → List Call → Desk → Type 0
+IsRequesterTold me end None d calls new = (calls ≡ []) × (new ≡ d)
+IsRequesterTold me end (Some (Identifier place)) d calls new = (calls ≡ []) × (new ≡ with_end d place (end_of end))
+IsRequesterTold me (Ok o) (Some (Itr q)) d calls new = IsToldItr me o q calls × (new ≡ d)
+IsRequesterTold me (Err why) (Some (Itr q)) d calls new = (calls ≡ []) × (new ≡ d)
 
 -- whoever waits for a lookup that has ended is taken off the list and told
-pub record Settles (me : Locator) (t : ℕ) (end : Result Outcome Why) (d : Desk) (calls : List Call) (new : Desk) : Type
-    0 where
-  pub rest : List Owner
-  pub taken : Option Asker
-  pub takes : TakesOff t d.owners rest taken
-  pub told : IsAskerTold me end taken (record d { owners = rest }) calls new
+pub record FinishesLookup (me : Locator) (t : ℕ) (end : Result Outcome Why) (d : Desk) (calls : List Call) (new : Desk)
+    : Type 0 where
+  pub rest : List WaitingRequester
+  pub taken : Option Requester
+  pub takes : TakesOff t d.waiting rest taken
+  pub told : IsRequesterTold me end taken (record d { waiting = rest }) calls new
 
 -- a lookup goes on, and its request is tried, or it ends
 abbrev pub Proceeds : Locator → Desk → Progress → List Call → Desk → Type 0
 Proceeds me d Stays calls new = (calls ≡ []) × (new ≡ d)
 Proceeds me d (Sends t e) calls new = IsSent me e calls × (new ≡ d)
-Proceeds me d (Ends t end) calls new = Settles me t end d calls new
+Proceeds me d (Ends t end) calls new = FinishesLookup me t end d calls new
 
 -- The resolver hears a datagram, or ticks, at a moment. `fails`: a request would be sent or a record saved, and
 -- memory ran out; nothing changes but the time.

@@ -1,14 +1,14 @@
 -- Why a datagram that came is ignored (RFC 8111, section 7.3).
 use Rattle.std.specs.Prelude.{ℕ, ◌≡◌, List, Option, None, Some}
 use Rattle.ddt_ecm.specs.UdpHeader.{control_port}
-use Rattle.ddt_wires.specs.declared.call.Packet.{Packet}
+use Rattle.ddt_sockets.specs.declared.wire_calls.Packet.{Packet}
 use Rattle.ddt_resolver.specs.declared.results.Heard.TheVariants as heard
 use Rattle.ddt_resolver.specs.declared.results.Ignored.{Ignored}
 use Rattle.ddt_resolver.specs.declared.step.Reply.{Reply}
 use Rattle.ddt_resolver.specs.declared.step.Reply.TheVariants.{ToAsk, ToDatagram, ToTick}
 use Rattle.ddt_resolver.specs.State.{State, moved}
 use Rattle.ddt_resolver.specs.Step.{ResolverCall, Step, Wants}
-use Rattle.ddt_resolver.specs.TakeUp.{Ignores}
+use Rattle.ddt_resolver.specs.MatchReply.{Ignores}
 use Rattle.ddt_loop.specs.Acts.{Running}
 
 -- why a step has ignored the datagram, by its reply; nothing where it hasn't, or where there was none

@@ -1,10 +1,10 @@
-pub mod Askers
+pub mod Requesters
 pub mod Acts
 pub mod Polls
 pub mod Turns
 pub mod Right
 pub mod Ends
 pub mod Sharing
-pub mod Coming
+pub mod PacketOutcomes
 pub mod Ignoring
 pub mod Runs

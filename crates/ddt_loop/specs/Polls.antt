@@ -2,12 +2,12 @@
 use Rattle.std.specs.Prelude.{ℕ, ◌≡◌, ◌≢◌, ◌⊎◌, true, false, List, [], ◌∷◌, slice_get, Option, Some, None, Result, Ok, Err, zero, suc}
 use Rattle.ddt_path.specs.declared.locator.Locator.{Locator}
 use Rattle.ddt_config.specs.Table.{Outline}
-use Rattle.ddt_wires.specs.declared.call.Call.{Call}
-use Rattle.ddt_wires.specs.declared.call.Call.TheVariants.{Received}
-use Rattle.ddt_wires.specs.declared.call.NetFault.{NetFault}
-use Rattle.ddt_wires.specs.declared.call.Packet.{Packet}
+use Rattle.ddt_sockets.specs.declared.wire_calls.Call.{Call}
+use Rattle.ddt_sockets.specs.declared.wire_calls.Call.TheVariants.{Received}
+use Rattle.ddt_sockets.specs.declared.wire_calls.NetFault.{NetFault}
+use Rattle.ddt_sockets.specs.declared.wire_calls.Packet.{Packet}
 use Rattle.ddt_ecm.specs.UdpHeader.{control_port}
-use Rattle.ddt_wires.specs.Turns.{AreTried, most_bytes, reply_to}
+use Rattle.ddt_sockets.specs.Turns.{AreTried, most_bytes, reply_to}
 use Rattle.ddt_resolver.specs.declared.itr_messages.ItrRequest.{ItrRequest}
 use Rattle.ddt_resolver.specs.Front.{IsItrRequest}
 use Rattle.ddt_resolver.specs.Step.{Hear}

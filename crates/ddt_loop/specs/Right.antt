@@ -10,21 +10,21 @@ use Rattle.ddt_register.specs.declared.register.Register.{Register}
 use Rattle.ddt_check.specs.Assignment.{assignment}
 use Rattle.ddt_check.specs.Says.{says}
 use Rattle.ddt_config.specs.Table.{Outline}
-use Rattle.ddt_wires.specs.declared.call.Call.{Call}
-use Rattle.ddt_wires.specs.declared.call.Call.TheVariants.{Received, Tried}
-use Rattle.ddt_wires.specs.declared.call.NetFault.{NetFault}
-use Rattle.ddt_wires.specs.declared.call.Packet.{Packet}
+use Rattle.ddt_sockets.specs.declared.wire_calls.Call.{Call}
+use Rattle.ddt_sockets.specs.declared.wire_calls.Call.TheVariants.{Received, Tried}
+use Rattle.ddt_sockets.specs.declared.wire_calls.NetFault.{NetFault}
+use Rattle.ddt_sockets.specs.declared.wire_calls.Packet.{Packet}
 use Rattle.ddt_ecm.specs.UdpHeader.{control_port}
 use Rattle.ddt_resolver.specs.declared.results.Outgoing.{Outgoing}
 use Rattle.ddt_resolver.specs.declared.itr_messages.ItrRequest.{ItrRequest}
 use Rattle.ddt_resolver.specs.Front.{IsItrRequest, reply_to_itr}
 use Rattle.ddt_resolver.specs.State.{State, request_bytes}
-use Rattle.ddt_resolver.specs.TakeUp.{TellsReply as IsReferralOf}
+use Rattle.ddt_resolver.specs.MatchReply.{TellsReply as IsReferralOf}
 use Rattle.ddt_sim.specs.Compiled.{AreCompiled}
 use Rattle.ddt_sim.specs.Schedules.{StartsSound}
 use Rattle.ddt_sim.specs.Sound.{IsRightWhy}
-use Rattle.ddt_loop.specs.declared.ends.LoopEnd.{LoopEnd}
-use Rattle.ddt_loop.specs.declared.ends.LoopEnd.TheVariants.{Answer, GaveUp, Refused, Unresolved}
+use Rattle.ddt_loop.specs.declared.lookup_end.LoopEnd.{LoopEnd}
+use Rattle.ddt_loop.specs.declared.lookup_end.LoopEnd.TheVariants.{Answer, GaveUp, Refused, Unresolved}
 
 -- ---- the premise
 

@@ -3,11 +3,11 @@ use Rattle.std.specs.Prelude.{ℕ, ◌≡◌, ◌≢◌, ◌≤◌, List, [], �
 use Rattle.std.specs.FinMap.{get}
 use Rattle.ddt_path.specs.declared.locator.Locator.{Locator}
 use Rattle.ddt_register.specs.declared.register.Register.{Register}
-use Rattle.ddt_wires.specs.declared.call.Call.{Call}
-use Rattle.ddt_wires.specs.declared.call.Call.TheVariants.{Received}
-use Rattle.ddt_wires.specs.declared.call.NetFault.{NetFault}
+use Rattle.ddt_sockets.specs.declared.wire_calls.Call.{Call}
+use Rattle.ddt_sockets.specs.declared.wire_calls.Call.TheVariants.{Received}
+use Rattle.ddt_sockets.specs.declared.wire_calls.NetFault.{NetFault}
 use Rattle.ddt_resolver.specs.declared.pending.Pending.{Pending}
-use Rattle.ddt_wires.specs.declared.call.Packet.{Packet}
+use Rattle.ddt_sockets.specs.declared.wire_calls.Packet.{Packet}
 use Rattle.ddt_cache.specs.Moment.{last_moment}
 use Rattle.ddt_resolver.specs.Order.{IsStateInOrder}
 use Rattle.ddt_ecm.specs.UdpHeader.{control_port}
@@ -17,8 +17,8 @@ use Rattle.ddt_resolver.specs.Step.{Hear, Tick}
 use Rattle.ddt_resolver.specs.Within.{IsCut}
 use Rattle.ddt_sim.specs.Schedules.{StartsSound}
 use Rattle.ddt_sim.specs.Sound.{IsSound}
-use Rattle.ddt_loop.specs.Askers.{opening_desk}
-use Rattle.ddt_loop.specs.declared.came.Ended.{Ended}
+use Rattle.ddt_loop.specs.Requesters.{opening_desk}
+use Rattle.ddt_loop.specs.declared.packet_outcome.Ended.{Ended}
 use Rattle.ddt_loop.specs.Acts.{Running, running, HearsOrTicks, Hastens, request_tried}
 use Rattle.ddt_loop.specs.Ends.{EndsBy, EndsByHaste}
 use Rattle.ddt_loop.specs.Sharing.{Sharer, MayShare, TellsSharers}
@@ -45,7 +45,7 @@ MayEndBy ends (Some e) = ends e
 -- a packet from UDP port 4342, heard so, has ended the lookup of an ITR
 pub record EndsByReply (now : ℕ) (p : Packet) (heard : List ℕ) (w new : Running) (e : Ended) : Type 0 where
   pub port : p.port ≡ control_port
-  pub ends : EndsBy (Hear p.from heard) (moved now w.state) new.state w.desk.owners new.desk.owners e
+  pub ends : EndsBy (Hear p.from heard) (moved now w.state) new.state w.desk.waiting new.desk.waiting e
 
 -- a resolver that begins in order, sound for a register, with nothing pending and with this address
 pub record BeginsSound (r : Register) (me : Locator) (s : State) : Type 0 where
@@ -71,12 +71,12 @@ pub data HasRun (may_begin : State → Type 0) (me : Locator) (start : Running) 
     ticked : {calls : List Call} {sharers : List Sharer} {w : Running} (now : ℕ) (tries : List Call)
         (ended : Option Ended) (tells : List Call) (left : List Sharer) (new : Running)
         → HasRun may_begin me start calls sharers w → now ≤ last_moment → HearsOrTicks me now Tick w tries new
-        → MayEndBy (EndsBy Tick (moved now w.state) new.state w.desk.owners new.desk.owners) ended
+        → MayEndBy (EndsBy Tick (moved now w.state) new.state w.desk.waiting new.desk.waiting) ended
         → TellsSharers me sharers ended tells left → HasRun may_begin me start (calls ++ (tries ++ tells)) left new
     hastened : {calls : List Call} {sharers : List Sharer} {w : Running} (now nonce : ℕ) (tries : List Call)
         (ended : Option Ended) (tells : List Call) (left : List Sharer) (new : Running)
         → HasRun may_begin me start calls sharers w → now ≤ last_moment → Hastens me now nonce w tries new
-        → MayEndBy (EndsByHaste nonce (moved now w.state) new.state w.desk.owners new.desk.owners) ended
+        → MayEndBy (EndsByHaste nonce (moved now w.state) new.state w.desk.waiting new.desk.waiting) ended
         → TellsSharers me sharers ended tells left → HasRun may_begin me start (calls ++ (tries ++ tells)) left new
     shared : {calls : List Call} {sharers : List Sharer} {w : Running} (room : ℕ) (p : Packet) (bytes : List ℕ)
         (j : Sharer) → HasRun may_begin me start calls sharers w → IsItrRequest bytes j.request → MayShare w.desk j

@@ -3,14 +3,14 @@ use Rattle.std.specs.Prelude.{ℕ, ◌≡◌, ◌==◌, not, List, [], ◌∷◌
 use Rattle.std.specs.List.{filter}
 use Rattle.ddt_path.specs.declared.locator.Locator.{Locator}
 use Rattle.ddt_path.specs.declared.record.Outcome.{Outcome}
-use Rattle.ddt_wires.specs.declared.call.Call.{Call}
+use Rattle.ddt_sockets.specs.declared.wire_calls.Call.{Call}
 use Rattle.ddt_resolver.specs.declared.itr_messages.ItrRequest.{ItrRequest}
 use Rattle.ddt_resolver.specs.declared.results.Why.{Why}
 use Rattle.ddt_path.specs.declared.xeid.Xeid.{Xeid}
-use Rattle.ddt_loop.specs.declared.came.Ended.{Ended}
-use Rattle.ddt_loop.specs.declared.owner.Asker.TheVariants.{Itr}
-use Rattle.ddt_loop.specs.declared.owner.Owner.{Owner}
-use Rattle.ddt_loop.specs.Askers.{Desk, owner_of}
+use Rattle.ddt_loop.specs.declared.packet_outcome.Ended.{Ended}
+use Rattle.ddt_loop.specs.declared.requester.Requester.TheVariants.{Itr}
+use Rattle.ddt_loop.specs.declared.requester.WaitingRequester.{WaitingRequester}
+use Rattle.ddt_loop.specs.Requesters.{Desk, waiting_for}
 use Rattle.ddt_loop.specs.Ends.{IsToldEnd}
 
 -- an ITR's request that waits for the lookup of a ticket, which another request has started
@@ -19,12 +19,12 @@ pub record Sharer : Type 0 where
   pub request : ItrRequest
 
 -- an ITR waits for the lookup of this ticket, and asked for this identifier
-abbrev pub IsAskedBy : List Owner → ℕ → Xeid → Type 0
-IsAskedBy owners t x = (q : ItrRequest) × Contains owners (owner_of t (Itr q)) × (q.xeid ≡ x)
+abbrev pub IsAskedBy : List WaitingRequester → ℕ → Xeid → Type 0
+IsAskedBy waiting t x = (q : ItrRequest) × Contains waiting (waiting_for t (Itr q)) × (q.xeid ≡ x)
 
 -- a request may share a lookup that an ITR waits for: it is for the same identifier
 abbrev pub MayShare : Desk → Sharer → Type 0
-MayShare d j = IsAskedBy d.owners j.ticket j.request.xeid
+MayShare d j = IsAskedBy d.waiting j.ticket j.request.xeid
 
 -- the requests of those who share a lookup, in the order in which they came
 abbrev pub sharing : ℕ → List Sharer → List ItrRequest

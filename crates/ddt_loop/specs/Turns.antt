@@ -3,12 +3,12 @@ use Rattle.std.specs.Prelude.{ℕ, ◌≡◌, ◌+◌, ◌≤◌, ◌%◌, ◌�
 use Rattle.ddt_path.specs.declared.locator.Locator.{Locator}
 use Rattle.ddt_path.specs.declared.xeid.Xeid.{Xeid}
 use Rattle.ddt_config.specs.Table.{Outline}
-use Rattle.ddt_wires.specs.declared.call.Call.{Call}
+use Rattle.ddt_sockets.specs.declared.wire_calls.Call.{Call}
 use Rattle.ddt_cache.specs.Moment.{last_moment}
 use Rattle.ddt_resolver.specs.State.{State}
 use Rattle.ddt_resolver.specs.Step.{Tick}
-use Rattle.ddt_loop.specs.declared.ends.LoopEnd.{LoopEnd}
-use Rattle.ddt_loop.specs.Askers.{opening_desk, has_unresolved}
+use Rattle.ddt_loop.specs.declared.lookup_end.LoopEnd.{LoopEnd}
+use Rattle.ddt_loop.specs.Requesters.{opening_desk, has_unresolved}
 use Rattle.ddt_loop.specs.Acts.{Running, running, AsksAt, HearsOrTicks}
 use Rattle.ddt_loop.specs.Polls.{Polls}
 

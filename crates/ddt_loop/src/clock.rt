@@ -1,31 +1,31 @@
-//! Where a running resolver reads the time.
+//! The clocks of a running resolver.
 
 ghost use Rattle.std.specs.Prelude.{◌≡◌, ◌+◌, ℕ, min, List, [], ◌∷◌, Option, None};
 ghost use Rattle.ddt_cache.specs.Moment.{last_moment};
-ghost use Rattle.ddt_wires.specs.Calls.{RecordsCalls};
+ghost use Rattle.ddt_sockets.specs.Calls.{RecordsCalls};
 
 use ddt_cache::{LAST_MOMENT, Moment};
 use std::time::Instant;
 use std::{io, time};
 
-/// A clock. Nothing is promised of its readings: it may stand, jump or go back.
+/// A clock. Its readings are arbitrary: it may stop, jump or go back.
 pub trait Clock {
-    /// The moments that were read so far, in their order; None of a clock that doesn't tell them, or not any more.
+    /// The moments read so far, in order; None for a clock that doesn't record them, or no longer does.
     ghost readings: { Self → Option (List ℕ) } = { λ _. None };
 
-    /// The moment that it is, in milliseconds.
+    /// Reads the current moment, in milliseconds.
     fn now(&mut self) -> Moment
         ensures { RecordsCalls (readings self.old) (result ∷ []) (readings self.new) };
 }
 
-/// A clock that stands.
+/// A clock that always reads the same moment.
 #[derive(Clone, Copy, Debug)]
-pub struct StandingClock {
+pub struct FixedClock {
     /// The moment of each reading.
     pub at: Moment,
 }
 
-impl Clock for StandingClock {
+impl Clock for FixedClock {
     fn now(&mut self) -> Moment
         ensures reads { RecordsCalls None (result ∷ []) None }
         ensures at { result ≡ self.old.at }
@@ -35,12 +35,12 @@ impl Clock for StandingClock {
     }
 }
 
-/// A clock that goes on by a step at each reading, and stays at the last moment.
+/// A clock that advances by a step at each reading, up to the last moment.
 #[derive(Clone, Copy, Debug)]
 pub struct SteppingClock {
     /// The moment of the next reading.
     pub next: Moment,
-    /// How many milliseconds later the reading after it is.
+    /// The difference between two readings, in milliseconds.
     pub step: u64,
 }
 
@@ -60,18 +60,18 @@ impl Clock for SteppingClock {
     }
 }
 
-/// The system's clock: the milliseconds since it was made, over anything that reads the system's time, as a reference
-/// to the runtime. What the system tells is trusted. A reading that fails gives the moment of the reading before.
+/// The system's clock: the milliseconds since its creation, read from anything that has the system's time, as a
+/// reference to the runtime. The system's time is trusted. A reading that fails returns the previous moment.
 #[derive(Drop)]
 pub struct SystemClock<T: time::Clock + Drop> {
-    /// Where the system's time comes from.
+    /// The source of the system's time.
     system: T,
     start: Instant,
     now: Moment,
 }
 
 impl<T: time::Clock + Drop> SystemClock<T> {
-    /// A clock that starts at 0. Refused as the system refuses to tell its time.
+    /// Creates a clock that starts at 0. Fails if the system's time can't be read.
     pub fn new(system: T) -> io::Result<SystemClock<T>> {
         let start = Instant::now(&system)?;
         Ok(SystemClock {

@@ -1,3 +1,4 @@
 pub mod AgainLemmas
 pub mod TakesLemmas
 pub mod NotifyLemmas
+pub mod HmacLemmas

@@ -1,7 +1,7 @@
 -- Whether a Map-Register is authentic under a secret (RFC 9301, section 5.6). No proof says that a code can't be
 -- forged: a message is authentic if it bears its own code.
 use Rattle.std.specs.Prelude.{ℕ, ◌≡◌, ◌==◌, ◌&&◌, ◌||◌, Bool, true, if◌then◌else◌, List, take}
-use Rattle.hmac.specs.Hmac.{hmac_sha256, hmac_sha1}
+use Rattle.ddt_map_register.specs.Hmac.Hmac.{hmac_sha256, hmac_sha1}
 use Rattle.ddt_map_register.specs.MapRegister.{Message}
 
 -- Algorithm ID 1, HMAC-SHA-1-96, of which some implementations send all 20 bytes

@@ -3,3 +3,4 @@ pub mod RegisterRecord
 pub mod MapRegister
 pub mod Authentic
 pub mod MapNotify
+pub mod Hmac

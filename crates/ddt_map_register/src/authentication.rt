@@ -1,10 +1,10 @@
 //! Authentication data: codes of a message in parts, by Algorithm ID (RFC 9301, section 12.5).
 
 ghost use Rattle.std.specs.Prelude.{◌≡◌, ◌≤◌, ◌++◌, replicate};
-ghost use Rattle.hmac.specs.Hmac.{hmac_sha256 as hmac_sha256_of, hmac_sha1 as hmac_sha1_of};
+ghost use Rattle.ddt_map_register.specs.Hmac.Hmac.{hmac_sha256 as hmac_sha256_of, hmac_sha1 as hmac_sha1_of};
 ghost use Rattle.ddt_map_register.specs.Authentic.{is_known as is_known_length};
 
-use hmac::{hmac_sha1, hmac_sha256};
+use crate::hmac::{hmac_sha1, hmac_sha256};
 
 /// The Algorithm ID of HMAC-SHA-1-96, with codes of 12 bytes, or of all 20, as some implementations send them.
 pub const SHA1_96: u8 = 1;

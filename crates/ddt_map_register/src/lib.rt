@@ -1,13 +1,14 @@
 //! Map-Registers: what their bytes spell, whether they are authentic, and the Map-Notifies that acknowledge them (RFC
 //! 9301, sections 5.6 and 5.7).
 //!
-//! In reading order: `fault`, `registered_locator`, `registered_locators`, `register_record`, `register_records`,
+//! In reading order: `hmac`, `fault`, `registered_locator`, `registered_locators`, `register_record`, `register_records`,
 //! `register_head`, `authentication`, `map_register`, `map_notify`, `laws`.
-//! Tests: ddt_registration_tests/reading, authenticity, notifies and refused.
+//! Tests: ddt_daemon_tests/registrations/reading, authenticity, notifies and refused.
 #![tactic(auto)]
 
 mod authentication;
 mod fault;
+pub mod hmac;
 mod laws;
 mod map_notify;
 mod map_register;

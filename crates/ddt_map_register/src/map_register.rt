@@ -5,11 +5,11 @@ ghost use Rattle.ddt_map_register.specs.MapRegister.{Message, SpellsRegister, me
 
 use crate::authentication::{SHA1_96, SHA256_128, sha1_code, sha256_code, zeros};
 use crate::fault::MapRegisterFault;
+use crate::hmac::is_code_cut;
 use crate::map_notify::write_notify;
 use crate::register_head::{BEFORE_CODE, RegisterHead, read_head};
 use crate::register_records::RegisterRecords;
 use byteorder::{BigEndian, ByteOrder};
-use hmac::is_code_cut;
 use std::alloc::{AllocError, Global};
 use std::marker::Model;
 

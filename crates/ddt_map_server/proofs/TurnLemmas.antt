@@ -3,10 +3,10 @@ use Rattle.std.proofs.Common.{◌≡◌, ℕ, ◌+◌, List, [], ◌∷◌, ◌+
 use Rattle.std.specs.Prelude.{Option}
 use Rattle.ddt_path.specs.declared.locator.Locator.{Locator}
 use Rattle.ddt_config.specs.Table.{Outline}
-use Rattle.ddt_settings.specs.declared.server_settings.ServerSettings.{ServerSettings}
-use Rattle.ddt_wires.specs.declared.call.Call.{Call}
-use Rattle.ddt_wires.specs.Calls.{RecordsCalls}
-use Rattle.ddt_wires.specs.laws.Tell.{tells_both, tells_none}
+use Rattle.ddt_config.specs.declared.settings.server_settings.ServerSettings.{ServerSettings}
+use Rattle.ddt_sockets.specs.declared.wire_calls.Call.{Call}
+use Rattle.ddt_sockets.specs.Calls.{RecordsCalls}
+use Rattle.ddt_sockets.specs.laws.Tell.{tells_both, tells_none}
 use Rattle.ddt_registrar.specs.State.{Site}
 use Rattle.ddt_map_server.specs.declared.register_counts.RegisterCounts.{RegisterCounts}
 use Rattle.ddt_map_server.specs.Rates.{Rates}

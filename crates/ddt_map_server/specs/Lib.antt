@@ -2,3 +2,4 @@ pub mod Registering
 pub mod Counted
 pub mod Rates
 pub mod Turns
+pub mod Keys

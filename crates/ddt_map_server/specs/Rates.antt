@@ -1,17 +1,17 @@
--- How often a source may register. Moments are in milliseconds.
+-- The limit of Map-Registers from a source. Moments are in milliseconds.
 use Rattle.std.specs.Prelude.{ℕ, ◌+◌, ◌/◌, ◌%◌, ◌^◌, ◌==◌, Bool, if◌then◌else◌, List, get_or, set, replicate, nat_lt}
 use Rattle.ddt_path.specs.declared.locator.Locator.{Locator}
 use Rattle.ddt_path.specs.declared.locator.Locator.TheVariants.{V4, V6}
 
--- how many slots there are, in which sources are counted
+-- the number of slots in which sources are counted
 abbrev pub slots : ℕ
 slots = 1021
 
--- how many Map-Registers are admitted in a second of the sources of a slot
+-- the most Map-Registers in a second from the sources of a slot
 abbrev pub most_a_second : ℕ
 most_a_second = 1000
 
--- how many came in this second, by slot
+-- the numbers of Map-Registers in this second, by slot
 pub record Rates : Type 0 where
   pub second : ℕ
   pub counts : List ℕ
@@ -21,11 +21,11 @@ abbrev pub slot_of : Locator → ℕ
 slot_of (V4 address) = address % slots
 slot_of (V6 address) = address / 2 ^ 64 % slots
 
--- the counts of a second: none came yet in a new one
+-- the counts of a second: all 0 in a new one
 abbrev pub counts_in : ℕ → Rates → List ℕ
 counts_in second r = if r.second == second then r.counts else replicate slots 0
 
--- how many came in a second of the sources that share this one's slot
+-- the number in a second from the sources that share this one's slot
 abbrev pub count_of : ℕ → Locator → Rates → ℕ
 count_of second source r = get_or (counts_in second r) (slot_of source) 0
 

@@ -1,4 +1,4 @@
--- What a Map-Server does with a Map-Register that has come (RFC 9301, sections 5.6 and 5.7).
+-- What a Map-Server does with a Map-Register that it receives (RFC 9301, sections 5.6 and 5.7).
 use Rattle.std.specs.Prelude.{ℕ, ◌/◌, ◌≡◌, ◌==◌, ◌<◌, ◌≤◌, Bool, false, List, [], ◌∷◌, length, Option, Some, None, Ok, Err}
 use Rattle.ddt_path.specs.declared.locator.Locator.{Locator}
 use Rattle.ddt_ecm.specs.UdpHeader.{control_port}
@@ -8,18 +8,18 @@ use Rattle.ddt_registrar.specs.declared.refusal.Refusal.{Refusal}
 use Rattle.ddt_registrar.specs.Sender.{sender_of}
 use Rattle.ddt_registrar.specs.State.{Site}
 use Rattle.ddt_registrar.specs.Taking.{IsTaken, IsRefused}
-use Rattle.ddt_wires.specs.declared.call.Call.{Call}
-use Rattle.ddt_wires.specs.declared.call.Packet.{Packet}
-use Rattle.ddt_wires.specs.Turns.{Outgoing, AreTried, first_went_out}
-use Rattle.ddt_map_server.specs.declared.outcome.Registered.{Registered}
-use Rattle.ddt_map_server.specs.declared.outcome.Registered.TheVariants.{TooLong, Malformed, Refused, Taken}
+use Rattle.ddt_sockets.specs.declared.wire_calls.Call.{Call}
+use Rattle.ddt_sockets.specs.declared.wire_calls.Packet.{Packet}
+use Rattle.ddt_sockets.specs.Turns.{Outgoing, AreTried, first_went_out}
+use Rattle.ddt_map_server.specs.declared.register_outcome.RegisterOutcome.{RegisterOutcome}
+use Rattle.ddt_map_server.specs.declared.register_outcome.RegisterOutcome.TheVariants.{TooLong, Malformed, Refused, Taken}
 
 -- the first four bits are those of a Map-Register
 abbrev pub begins_map_register : List ℕ → Bool
 begins_map_register [] = false
 begins_map_register (first ∷ rest) = first / 16 == map_register
 
--- how many bytes a Map-Register has at most
+-- the most bytes of a Map-Register
 abbrev pub most_bytes : ℕ
 most_bytes = 1500
 
@@ -28,10 +28,10 @@ abbrev pub notify_to_sender : Packet → Option (List ℕ) → List Outgoing
 notify_to_sender p None = []
 notify_to_sender p (Some notify) = record { to = p.from; port = control_port; bytes = notify } ∷ []
 
--- What becomes of a Map-Register from what is registered before it and after it, by the calls that are made. Only one
--- that is taken is answered, and then what it says is registered already.
-pub data Registers (now : ℕ) (at : Locator) (p : Packet) (bytes : List ℕ) (old new : List Site) : List Call → Registered
-    → Type 0 where
+-- The outcome of a Map-Register, with the registrations before and after it, and the calls that are made. Only an
+-- accepted one is answered, after its records are registered.
+pub data Registers (now : ℕ) (at : Locator) (p : Packet) (bytes : List ℕ) (old new : List Site) :
+    List Call → RegisterOutcome → Type 0 where
   too_long : most_bytes < length bytes → new ≡ old → Registers now at p bytes old new [] TooLong
   malformed : length bytes ≤ most_bytes → (fault : MapRegisterFault) → message_in bytes ≡ Err fault → new ≡ old
       → Registers now at p bytes old new [] (Malformed fault)

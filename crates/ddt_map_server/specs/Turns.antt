@@ -3,16 +3,16 @@
 use Rattle.std.specs.Prelude.{ℕ, ◌+◌, ◌≡◌, Bool, true, false, List, [], ◌∷◌, ◌++◌, Option, Some, None, Ok, Err}
 use Rattle.ddt_path.specs.declared.locator.Locator.{Locator}
 use Rattle.ddt_config.specs.Table.{Outline}
-use Rattle.ddt_settings.specs.declared.server_settings.ServerSettings.{ServerSettings}
-use Rattle.ddt_wires.specs.declared.call.Call.{Call}
-use Rattle.ddt_wires.specs.declared.call.Call.TheVariants.{Received, Tried}
-use Rattle.ddt_wires.specs.declared.call.Packet.{Packet}
-use Rattle.ddt_wires.specs.Turns.{most_bytes}
+use Rattle.ddt_config.specs.declared.settings.server_settings.ServerSettings.{ServerSettings}
+use Rattle.ddt_sockets.specs.declared.wire_calls.Call.{Call}
+use Rattle.ddt_sockets.specs.declared.wire_calls.Call.TheVariants.{Received, Tried}
+use Rattle.ddt_sockets.specs.declared.wire_calls.Packet.{Packet}
+use Rattle.ddt_sockets.specs.Turns.{most_bytes}
 use Rattle.ddt_daemon.specs.ServerTurns.{IsTurn}
 use Rattle.ddt_registrar.specs.State.{Site}
 use Rattle.ddt_registrar.specs.Taking.{in_force}
-use Rattle.ddt_map_server.specs.declared.outcome.Registered.{Registered}
-use Rattle.ddt_map_server.specs.declared.outcome.Registered.TheVariants.{Limited}
+use Rattle.ddt_map_server.specs.declared.register_outcome.RegisterOutcome.{RegisterOutcome}
+use Rattle.ddt_map_server.specs.declared.register_outcome.RegisterOutcome.TheVariants.{Limited}
 use Rattle.ddt_map_server.specs.declared.register_counts.RegisterCounts.{RegisterCounts}
 use Rattle.ddt_map_server.specs.Counted.{with_registered}
 use Rattle.ddt_map_server.specs.Rates.{Rates, is_admitted, after_one}
@@ -25,7 +25,7 @@ pub record Registering : Type 0 where
   pub counts : RegisterCounts
 
 -- the same after a Map-Register, from these sites, by what was done with it
-abbrev pub registering_after : ℕ → Packet → List Site → Registered → Registering → Registering
+abbrev pub registering_after : ℕ → Packet → List Site → RegisterOutcome → Registering → Registering
 registering_after now p sites done r = record {
   sites = sites;
   rates = after_one now p.from r.rates;
@@ -43,9 +43,9 @@ brings_map_register [] = false
 -- What is done with a Map-Register. `limited`: it is dropped for what its source has sent. `registers`: it is taken, or
 -- dropped for what it is.
 pub data IsDone (now : ℕ) (at : Locator) (p : Packet) (bytes : List ℕ) (rates : Rates) (old new : List Site) :
-    List Call → Registered → Type 0 where
+    List Call → RegisterOutcome → Type 0 where
   limited : is_admitted now p.from rates ≡ false → new ≡ old → IsDone now at p bytes rates old new [] Limited
-  registers : is_admitted now p.from rates ≡ true → (tries : List Call) (done : Registered)
+  registers : is_admitted now p.from rates ≡ true → (tries : List Call) (done : RegisterOutcome)
       → Registers now at p bytes old new tries done → IsDone now at p bytes rates old new tries done
 
 -- One turn. `served`: no Map-Register came, and the server does what one of the configuration in force does.
@@ -54,7 +54,7 @@ pub data IsMapServerTurn (c : Outline) (settings : ServerSettings) (now : ℕ) (
     List Call → Type 0 where
   served : (turn : List Call) → brings_map_register turn ≡ false → IsTurn (in_force old.sites c) settings at turn
       → new ≡ old → IsMapServerTurn c settings now at old new turn
-  registered : (p : Packet) (bytes : List ℕ) (tries : List Call) (done : Registered) (sites : List Site)
+  registered : (p : Packet) (bytes : List ℕ) (tries : List Call) (done : RegisterOutcome) (sites : List Site)
       → begins_map_register bytes ≡ true → IsDone now at p bytes old.rates old.sites sites tries done
       → new ≡ registering_after now p sites done old
       → IsMapServerTurn c settings now at old new (Received at most_bytes (Ok (Some p)) bytes ∷ tries)

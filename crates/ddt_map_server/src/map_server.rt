@@ -1,45 +1,45 @@
-//! A Map-Server whose sites' ETRs register, and its turns at a socket.
+//! A Map-Server whose sites' ETRs register, and how it serves the datagrams of a socket.
 
 ghost use Rattle.std.specs.Prelude.{◌≡◌, ◌≢◌, ◌⊎◌, ◌+◌, ◌≤◌, ◌∷◌, ℕ, List, length, map, Some, Ok, IfOk, IfErr, OnOk, OnErr};
 ghost use Rattle.ddt_config.specs.declared.fault.ConfigFault.TheVariants.{Shape as IsShape, Memory as IsMemory};
 ghost use Rattle.ddt_config.specs.Table.{Outline, outline};
 ghost use Rattle.ddt_node.specs.Spelled.{HasRoom};
-ghost use Rattle.ddt_wires.specs.declared.call.Call.{Call as ACall};
-ghost use Rattle.ddt_wires.specs.declared.call.Call.TheVariants.{Received};
-ghost use Rattle.ddt_wires.specs.Calls.{RecordsCalls};
-ghost use Rattle.ddt_wires.specs.Turns.{most_bytes as most_udp_bytes, is_received};
+ghost use Rattle.ddt_sockets.specs.declared.wire_calls.Call.{Call as ACall};
+ghost use Rattle.ddt_sockets.specs.declared.wire_calls.Call.TheVariants.{Received};
+ghost use Rattle.ddt_sockets.specs.Calls.{RecordsCalls};
+ghost use Rattle.ddt_sockets.specs.Turns.{most_bytes as most_udp_bytes, is_received};
 ghost use Rattle.ddt_registrar.specs.Carried.{carried_from};
 ghost use Rattle.ddt_registrar.specs.Taking.{site_at};
 ghost use Rattle.ddt_map_server.specs.Rates.{after_one};
 ghost use Rattle.ddt_map_server.specs.Turns.{Follows, IsDone, IsMapServerTurn, AreMapServerTurns};
 
-use crate::outcome::Registered;
+use crate::changed_sites::ChangedSites;
 use crate::register_counts::RegisterCounts;
-use crate::registering::{Visit, is_map_register, register};
-use crate::source_rates::SourceRates;
-use crate::touched::Touched;
+use crate::register_outcome::RegisterOutcome;
+use crate::registering::{ReceivedDatagram, is_map_register, register};
+use crate::source_rate_limit::SourceRateLimit;
 use ddt_config::{ConfigFault, ServerConfig};
-use ddt_daemon::{Door, ServerRecord, serve_packet};
+use ddt_daemon::{ServerRecord, ServerSocket, serve_packet};
 use ddt_node::Server;
-use ddt_registrar::{Ranking, Registrar};
+use ddt_registrar::{RankedEtrs, Registrar};
+use ddt_sockets::{Packet, Wires};
 use ddt_trie::PrefixMap;
-use ddt_wires::{Packet, Wires};
 use std::alloc::{AllocError, Global};
 use std::marker::Model;
 use std::mem;
 
-/// A Map-Server whose sites' ETRs register. Contracts see the configuration that it answers by, what is registered, what
-/// each source has sent, and what is counted.
+/// A Map-Server whose sites' ETRs register. Contracts see the configuration that it answers by, the registrations, the
+/// number of Map-Registers of each source in this second, and the counts.
 #[derive(Drop)]
 pub struct MapServer<M: PrefixMap<u32>> {
     server: Server<M>,
     registrar: Registrar<M>,
-    rates: SourceRates,
+    rates: SourceRateLimit,
     counts: RegisterCounts,
-    /// What was done with requests.
+    /// The record of the requests that were served.
     pub done: ServerRecord,
-    /// The sites of which something was registered or withdrawn.
-    pub touched: Touched,
+    /// The sites for which something was registered or withdrawn.
+    pub changed_sites: ChangedSites,
 }
 
 impl<M: PrefixMap<u32>> Model for MapServer<M> {
@@ -54,8 +54,8 @@ impl<M: PrefixMap<u32>> Model for MapServer<M> {
 }
 
 impl<M: PrefixMap<u32>> MapServer<M> {
-    /// A Map-Server of a server, which answers by its own configuration, and of a registrar, whose registrations are in
-    /// force from now on. Fails only if out of memory.
+    /// A Map-Server of a server, which answers by its own configuration, and of a registrar. The registrations of the
+    /// registrar are in force from now on. Fails only if out of memory.
     pub fn new(
         alloc: Global,
         mut server: Server<M>,
@@ -63,42 +63,42 @@ impl<M: PrefixMap<u32>> MapServer<M> {
     ) -> Result<MapServer<M>, AllocError>
         ensures { IfOk result (λ s. Follows server s × (s.registering.sites ≡ registrar)) }
     {
-        let mut ranking = Ranking::new(alloc)?;
+        let mut ranking = RankedEtrs::new(alloc)?;
         registrar.put_in_force(alloc, &mut ranking, &mut server);
         Ok(MapServer {
             server,
             registrar,
-            rates: SourceRates::new(),
+            rates: SourceRateLimit::new(),
             counts: RegisterCounts::default(),
             done: ServerRecord::new(alloc),
-            touched: Touched::new(alloc),
+            changed_sites: ChangedSites::new(alloc),
         })
     }
 
-    /// Its server.
+    /// The server, which answers requests.
     pub fn server(&self) -> &Server<M>
         ensures { result.now ≡ self.now.config }
     {
         &self.server
     }
 
-    /// What is registered.
+    /// The registrar, which has the registrations.
     pub fn registrar(&self) -> &Registrar<M>
         ensures { result.now ≡ self.now.registering.sites }
     {
         &self.registrar
     }
 
-    /// What it has counted of Map-Registers.
+    /// The counts of Map-Registers.
     pub fn counts(&self) -> RegisterCounts
         ensures { result ≡ self.now.registering.counts }
     {
         self.counts
     }
 
-    /// Takes up a configuration and a registrar in place of its own, and carries over what is registered. Refused as
-    /// `take_up_config` of `ddt_node` refuses the configuration, and for memory; then nothing changes.
-    pub fn take_up(
+    /// Replaces the configuration and the registrar, and carries the registrations over. Refused as `adopt_config` of
+    /// `ddt_node` refuses the configuration, and for memory; then nothing changes.
+    pub fn adopt(
         &mut self,
         alloc: Global,
         config: ServerConfig,
@@ -114,7 +114,7 @@ impl<M: PrefixMap<u32>> MapServer<M> {
         ensures unchanged { OnErr result (self.new ≡ self.old) }
     {
         let mut server = Server::of_config(alloc, config)?;
-        let Ok(mut ranking) = Ranking::new(alloc) else {
+        let Ok(mut ranking) = RankedEtrs::new(alloc) else {
             return Err(ConfigFault::Memory);
         };
         registrar.carry_over(mem::replace(&mut self.registrar, Registrar::new(alloc)));
@@ -124,8 +124,8 @@ impl<M: PrefixMap<u32>> MapServer<M> {
         Ok(())
     }
 
-    /// Takes away what is over at a moment, in milliseconds. Fails only if out of memory, and then nothing changes: it
-    /// is to be called again.
+    /// Removes the registrations that are over at a moment, in milliseconds. Fails only if out of memory, and then
+    /// nothing changes: call it again.
     pub fn end(&mut self, alloc: Global, moment: u64) -> Result<(), AllocError>
         ensures ended { OnOk result (self.new.registering ≡ record {
           sites = map (site_at moment) self.old.registering.sites;
@@ -138,15 +138,15 @@ impl<M: PrefixMap<u32>> MapServer<M> {
         self.registrar.end(alloc, &mut self.server, moment)
     }
 
-    /// Takes turns at a socket at a moment, in milliseconds; at most so many, and none after one that is given no
-    /// packet. Answers how many packets it was given. Each turn calls `receive` once.
+    /// Serves the datagrams that wait at a socket, at a moment in milliseconds: at most `most`, and none after
+    /// `receive` returns no packet. Each turn calls `receive` once. Returns the number of packets.
     ///
-    /// A Map-Register is taken or dropped, as `register` does, or dropped unread where its source has sent 1,000 in this
-    /// second. For all else the server does what `serve_ready` of `ddt_daemon` does.
+    /// A Map-Register is accepted or dropped, as `register` does, or dropped unread if its source has sent 1,000 in
+    /// this second. Any other datagram is served as `serve_ready` of `ddt_daemon` does.
     pub fn serve_ready<W: Wires>(
         &mut self,
         wires: &mut W,
-        door: &Door<'_>,
+        door: &ServerSocket<'_>,
         moment: u64,
         most: u32,
         buffer: &mut [u8],
@@ -169,11 +169,11 @@ impl<M: PrefixMap<u32>> MapServer<M> {
         received
     }
 
-    /// One turn; whether it was given a packet.
+    /// Receives and serves one datagram. Returns whether there was one.
     fn turn<W: Wires>(
         &mut self,
         wires: &mut W,
-        door: &Door<'_>,
+        door: &ServerSocket<'_>,
         moment: u64,
         buffer: &mut [u8],
     ) -> bool
@@ -186,55 +186,61 @@ impl<M: PrefixMap<u32>> MapServer<M> {
     {
         match wires.receive(door.at, buffer) {
             Ok(Some(packet)) => {
-                let visit = Visit {
+                let datagram = ReceivedDatagram {
                     alloc: door.alloc,
                     at: door.at,
                     packet,
                     bytes: &buffer[..packet.len],
                     moment,
                 };
-                self.visit(wires, door, &visit);
+                self.serve_datagram(wires, door, &datagram);
                 true
             }
             Ok(None) => false,
-            // One datagram is lost, and the next round goes on.
+            // The datagram is lost; the next round goes on.
             Err(_fault) => false,
         }
     }
 
-    /// Does what is to be done for a datagram that has come to a door.
-    fn visit<W: Wires>(&mut self, wires: &mut W, door: &Door<'_>, visit: &Visit<'_>)
-        requires { visit.now.at ≡ door.now.at }
+    /// Serves a datagram that was received at a door.
+    fn serve_datagram<W: Wires>(
+        &mut self,
+        wires: &mut W,
+        door: &ServerSocket<'_>,
+        datagram: &ReceivedDatagram<'_>,
+    )
+        requires { datagram.now.at ≡ door.now.at }
         ensures { (c : Outline) → Follows c self.old → Follows c self.new × (tries : List ACall)
             × RecordsCalls (W.calls wires.old) tries (W.calls wires.new)
-            × IsMapServerTurn c door.now.settings.now visit.now.moment door.now.at self.old.registering
-            self.new.registering (Received door.now.at most_udp_bytes (Ok (Some visit.now.packet)) visit.now.bytes.now ∷ tries) }
+            × IsMapServerTurn c door.now.settings.now datagram.now.moment door.now.at self.old.registering
+            self.new.registering
+            (Received door.now.at most_udp_bytes (Ok (Some datagram.now.packet)) datagram.now.bytes.now ∷ tries) }
     {
-        if is_map_register(visit.bytes) {
-            let registered = self.admit(wires, visit);
+        if is_map_register(datagram.bytes) {
+            let registered = self.admit(wires, datagram);
             self.counts.count(registered);
         } else {
-            let done = serve_packet(wires, &self.server, door, visit.packet, visit.bytes);
-            self.done.serve_one(visit.packet.from, done);
+            let done = serve_packet(wires, &self.server, door, datagram.packet, datagram.bytes);
+            self.done.serve_one(datagram.packet.from, done);
         }
     }
 
-    /// Takes a Map-Register or drops it, and says what was done with it.
-    fn admit<W: Wires>(&mut self, wires: &mut W, visit: &Visit<'_>) -> Registered
+    /// Accepts or drops a Map-Register, and returns the outcome.
+    fn admit<W: Wires>(&mut self, wires: &mut W, datagram: &ReceivedDatagram<'_>) -> RegisterOutcome
         ensures done { (tries : List ACall) × RecordsCalls (W.calls wires.old) tries (W.calls wires.new)
-            × IsDone visit.now.moment visit.now.at visit.now.packet visit.now.bytes.now self.old.registering.rates
-            self.old.registering.sites self.new.registering.sites tries result }
+            × IsDone datagram.now.moment datagram.now.at datagram.now.packet datagram.now.bytes.now
+            self.old.registering.rates self.old.registering.sites self.new.registering.sites tries result }
         ensures counted { self.new.registering.rates
-            ≡ after_one visit.now.moment visit.now.packet.from self.old.registering.rates }
+            ≡ after_one datagram.now.moment datagram.now.packet.from self.old.registering.rates }
         ensures counts { self.new.registering.counts ≡ self.old.registering.counts }
         ensures follows { (c : Outline) → Follows c self.old → Follows c self.new }
     {
-        if !self.rates.admits(visit.packet.from, visit.moment) {
-            return Registered::Limited;
+        if !self.rates.admits(datagram.packet.from, datagram.moment) {
+            return RegisterOutcome::Limited;
         }
-        let registered = register(wires, &mut self.server, &mut self.registrar, visit);
-        if let Registered::Taken { notified: _ } = registered {
-            self.touched.note(visit.bytes);
+        let registered = register(wires, &mut self.server, &mut self.registrar, datagram);
+        if let RegisterOutcome::Taken { notified: _ } = registered {
+            self.changed_sites.note(datagram.bytes);
         }
         registered
     }

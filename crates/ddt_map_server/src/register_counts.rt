@@ -1,19 +1,19 @@
-//! What a Map-Server counts of Map-Registers. A count that is full stays so.
+//! The counts of Map-Registers at a Map-Server. Each count saturates.
 
 ghost use Rattle.std.specs.Prelude.{◌≡◌};
 ghost use Rattle.ddt_map_server.specs.Counted.{plus_one, with_registered, with_refused};
 
-use crate::outcome::Registered;
+use crate::register_outcome::RegisterOutcome;
 use ddt_registrar::Refusal;
 use std::fmt;
 
-/// How many Map-Registers were taken, and how many were dropped for which reason.
+/// The numbers of Map-Registers that were accepted, and of those that were dropped for each reason.
 #[derive(Clone, Copy, Debug, Default, PartialEq, Eq)]
 pub struct RegisterCounts {
-    /// Those that were taken, and the Map-Notifies that were sent for them.
+    /// The accepted ones, and the Map-Notifies that were sent for them.
     pub taken: u64,
     pub notified: u64,
-    /// Those that were dropped, by why.
+    /// The dropped ones, by reason.
     pub limited: u64,
     pub too_long: u64,
     pub malformed: u64,
@@ -26,7 +26,7 @@ pub struct RegisterCounts {
     pub memory: u64,
 }
 
-/// One more.
+/// The count plus one; a full count stays full.
 fn one_more(count: u64) -> u64
     ensures { result ≡ plus_one count }
 {
@@ -34,16 +34,16 @@ fn one_more(count: u64) -> u64
 }
 
 impl RegisterCounts {
-    /// Counts a Map-Register by what was done with it.
-    pub fn count(&mut self, registered: Registered)
+    /// Counts a Map-Register by its outcome.
+    pub fn count(&mut self, registered: RegisterOutcome)
         ensures { self.new ≡ with_registered self.old registered }
     {
         match registered {
-            Registered::Limited => self.limited = one_more(self.limited),
-            Registered::TooLong => self.too_long = one_more(self.too_long),
-            Registered::Malformed(_fault) => self.malformed = one_more(self.malformed),
-            Registered::Refused(refusal) => self.refuse(refusal),
-            Registered::Taken { notified } => {
+            RegisterOutcome::Limited => self.limited = one_more(self.limited),
+            RegisterOutcome::TooLong => self.too_long = one_more(self.too_long),
+            RegisterOutcome::Malformed(_fault) => self.malformed = one_more(self.malformed),
+            RegisterOutcome::Refused(refusal) => self.refuse(refusal),
+            RegisterOutcome::Taken { notified } => {
                 self.taken = one_more(self.taken);
                 if notified {
                     self.notified = one_more(self.notified);
@@ -52,7 +52,7 @@ impl RegisterCounts {
         }
     }
 
-    /// How many Map-Registers have come.
+    /// The number of Map-Registers that were received.
     pub fn received(&self) -> u64 {
         let dropped = [
             self.limited,

@@ -22,7 +22,7 @@ use Rattle.ddt_config.specs.Table.{Outline}
 use Rattle.ddt_config.specs.Answer.{answer, answer_in, site_outcome, strictly_below, referral_to}
 use Rattle.ddt_trie.specs.PrefixMap.{path_cmp}
 use Rattle.ddt_node.specs.Places.{places}
-use Rattle.ddt_node.proofs.PlaceLemmas.{free_below_of_places, found_at}
+use Rattle.ddt_node.proofs.PlaceLemmas.{free_of_places, free_below_of_places, found_at}
 use Rattle.ddt_node.specs.Server.{authority_of, etr_in, first_etr, is_ack}
 use Rattle.ddt_node.specs.declared.forward.Forward.{Forward}
 
@@ -71,6 +71,21 @@ acknowledged c x f = mapped f (first_etr c x) ∙ by_authority (authority_of c x
     by_authority : (o : Option Authority) → is_some (option_and_then (λ a. etr_in x a.content) o) ≡ is_ack (option_map_or (λ a. answer_in c.locators a.prefix a.content x) o (not_authoritative x)).action
     by_authority None = refl
     by_authority (Some a) = content_acknowledged c.locators a.prefix a.content x
+
+-- ---- where nothing was found
+
+module _ (servers : List Locator) (authority : List ℕ) (x : List ℕ) (m : FinMap path_cmp ℕ) where
+  pub no_child_answer : (cs : List Child) → m ≡ places (map (λ c. c.prefix) cs) → longest_match (λ c. c.prefix) cs x ≡ None
+      → record_of (Hole (hole_of authority (keys m) x)) ≡ answer_in servers authority (Children cs) x
+  no_child_answer cs is none =
+      ap (λ (p : Option (List ℕ)). record_of (Hole (unwrap_or p x))) (free_of_places m (map (λ c. c.prefix) cs) is authority x)
+      ∙ ap (λ (o : Option Child). option_map_or referral_to o (record_of (Hole (hole_of authority (map (λ c. c.prefix) cs) x)))) (sym none)
+
+  pub no_site_answer : (ss : List SiteEntry) → m ≡ places (map (λ s. s.prefix) ss) → longest_match (λ s. s.prefix) ss x ≡ None
+      → record_of (Hole (hole_of authority (keys m) x)) ≡ answer_in servers authority (Sites ss) x
+  no_site_answer ss is none =
+      ap (λ (p : Option (List ℕ)). record_of (Hole (unwrap_or p x))) (free_of_places m (map (λ s. s.prefix) ss) is authority x)
+      ∙ ap (λ (o : Option SiteEntry). record_of (option_map_or (site_outcome servers (map (λ s. s.prefix) ss) x) o (Hole (hole_of authority (map (λ s. s.prefix) ss) x)))) (sym none)
 
 -- ---- the site that was found
 

@@ -1,9 +1,9 @@
 -- That other ETRs of a site change neither the shape of a configuration nor its index, and change one site alone.
-use Rattle.std.proofs.Common.{◌≡◌, ℕ, zero, suc, ◌+◌, ◌<◌, ◌≤◌, ◌≢◌, below_more, get_or-set_other, get_or-set_same, Bool, true, false, List, [], ◌∷◌, ◌&&◌, map, length, get_or, set, cond, Option, Some, None, refl, sym, ap, ◌∙◌, arith, inl, inr}
-use Rattle.std.specs.List.{list_all, list_any}
+use Rattle.std.proofs.Common.{◌≡◌, ℕ, ◌+◌, ◌<◌, ◌≤◌, ◌≢◌, below_more, get_or-set_other, get_or-set_same, Bool, true, false, List, [], ◌∷◌, ◌&&◌, ◌++◌, map, length, take, drop, get_or, set, cond, Some, None, refl, sym, ap, ◌∙◌, arith}
+use Rattle.std.specs.List.{list_all}
 use Rattle.std.specs.FinMap.{FinMap, get}
 use Rattle.std.proofs.lemmas.Bool.{false≢true, and_parts, and_from}
-use Rattle.std.proofs.lemmas.List.{length-map, length-set, same_lists, get_or-map, get_or_default}
+use Rattle.std.proofs.lemmas.List.{append-nil, drop_all, take_all, length-map, length-set, same_lists, get_or-map, get_or_default}
 use Rattle.ddt_path.specs.declared.locator.Locator.{Locator}
 use Rattle.ddt_path.specs.declared.record.Role.{Role}
 use Rattle.ddt_path.specs.declared.record.Role.TheVariants.{Node, Ms}
@@ -14,10 +14,9 @@ use Rattle.ddt_config.specs.declared.site_entry.SiteEntry.{SiteEntry}
 use Rattle.ddt_config.specs.declared.authority.Content.{Content}
 use Rattle.ddt_config.specs.declared.authority.Content.TheVariants.{Children, Sites}
 use Rattle.ddt_config.specs.declared.authority.Authority.{Authority}
-use Rattle.ddt_config.specs.Shaped.{fits, is_server_set, no_two, have_own_prefixes, is_site_of, is_content_of, is_authority_of, is_shaped}
+use Rattle.ddt_config.specs.Shaped.{fits, is_server_set, have_own_prefixes, is_site_of, is_content_of, is_authority_of, is_shaped}
 use Rattle.ddt_config.specs.Entries.{prefixes_in}
 use Rattle.ddt_node.specs.Places.{places, places_in, AreIndexed}
-use Rattle.ddt_node.specs.ReferralSets.{sets_in, sets_of}
 use Rattle.ddt_node.specs.Etrs.{site_with, content_with, authority_with, has_own_sites, holds_own_sites}
 use Rattle.ddt_node.specs.laws.Changed.{map_kept, no_two_kept, all_kept, at_prefix, one_is_set, none_is_set}
 
@@ -27,17 +26,12 @@ prefixes_kept : (p : List ℕ) (e : List Locator) (content : Content) → prefix
 prefixes_kept p e (Children cs) = refl
 prefixes_kept p e (Sites ss) = map_kept (λ (s : SiteEntry). s.prefix) (site_with p e) (λ s. refl) ss
 
-sets_kept : (p : List ℕ) (e : List Locator) (content : Content) → sets_in (content_with p e content) ≡ sets_in content
-sets_kept p e (Children cs) = refl
-sets_kept p e (Sites ss) = refl
-
 -- an index of authorities is one of these with other ETRs
-pub index_kept : (p : List ℕ) (e : List Locator) (authorities : List Authority) (index : _) (contents : _) (referrals : _)
-    → AreIndexed authorities index contents referrals → AreIndexed (map (authority_with p e) authorities) index contents referrals
-index_kept p e authorities index contents referrals i = record {
+pub index_kept : (p : List ℕ) (e : List Locator) (authorities : List Authority) (index : _) (contents : _)
+    → AreIndexed authorities index contents → AreIndexed (map (authority_with p e) authorities) index contents
+index_kept p e authorities index contents i = record {
   of_authorities = i.of_authorities ∙ ap places (sym (map_kept (λ (a : Authority). a.prefix) (authority_with p e) (λ a. refl) authorities));
   of_contents = i.of_contents ∙ sym (map_kept places_in (authority_with p e) (λ a. ap places (prefixes_kept p e a.content)) authorities);
-  of_children = i.of_children ∙ sym (map_kept sets_of (authority_with p e) (λ a. sets_kept p e a.content) authorities);
 }
 
 -- ---- the shape
@@ -140,17 +134,22 @@ one_mapped {A = A} f was now i y d₀ inside y_is m =
     }
 
 -- the authority at the index
-pub authority_mapped : (p : List ℕ) (e : List Locator) (content_ : Content) (was now : List Authority) (i : ℕ) (d₀ : Authority) → i < length was
-    → content_ ≡ content_with p e (get_or now i d₀).content
+pub authority_mapped : (p : List ℕ) (e : List Locator) (prefix_ : List ℕ) (old new : Content) (was now : List Authority) (i : ℕ) (d₀ : Authority) → i < length was
+    → new ≡ content_with p e old → (let a : Authority = record { prefix = prefix_; content = old } in a) ≡ get_or now i d₀
     → IsMappedSoFar (authority_with p e) was i now
-    → IsMappedSoFar (authority_with p e) was (i + 1) (set now i (record { prefix = (get_or now i d₀).prefix; content = content_ }))
-authority_mapped p e content_ was now i d₀ inside content_is m =
-    let y : Authority = record { prefix = (get_or now i d₀).prefix; content = content_ } in
-    one_mapped (authority_with p e) was now i y d₀ inside
-    (ap (λ (c : Content). let a : Authority = record { prefix = (get_or now i d₀).prefix; content = c } in a) content_is) m
+    → IsMappedSoFar (authority_with p e) was (i + 1) (set now i (record { prefix = prefix_; content = new }))
+authority_mapped p e prefix_ old new was now i d₀ inside content_is there m =
+    one_mapped (authority_with p e) was now i _ d₀ inside
+    (ap (λ (c : Content). let a : Authority = record { prefix = prefix_; content = c } in a) content_is ∙ ap (authority_with p e) there) m
 
 -- all are
 pub all_mapped : {A : Type 0} (f : A → A) (was now : List A) (i : ℕ) → length now ≤ i → IsMappedSoFar f was i now → now ≡ map f was
 all_mapped f was now i end m =
     same_lists now (map f was) (m.len ∙ sym (length-map was f))
     (λ k d inside. m.done k (omega (arith, m.len)) d (omega (arith, m.len)) ∙ sym (get_or-map f was k d d (omega (arith, m.len))))
+
+-- a list that is written over a whole one of its length stands in its place
+pub written_back : {A : Type 0} (n : ℕ) (was now : List A) → length was ≡ n → length now ≡ n → take n (now ++ drop (length now) was) ≡ now
+written_back {A = A} n was now len_was len_now =
+    let none : drop (length now) was ≡ [] = drop_all (length now) was (omega (arith, len_was, len_now)) in
+    ap (λ (rest : List A). take n (now ++ rest)) none ∙ ap (take n) (append-nil now) ∙ take_all n now (omega (arith, len_now))

@@ -8,7 +8,7 @@ use Rattle.ddt_path.specs.Records.{referral, record_of, not_authoritative}
 use Rattle.ddt_node.specs.declared.decision.Decision.{Decision}
 use Rattle.ddt_node.specs.declared.decision.Decision.TheVariants.{Child, Registered, NotRegistered, Hole, Outside}
 
--- a record whose referral set is the whole of it
+-- a record with a complete referral set
 abbrev pub whole_record : Action → List ℕ → ℕ → List Locator → ReferralRecord
 whole_record action_ prefix_ ttl_ servers_ =
     record { action = action_; prefix = prefix_; ttl = ttl_; incomplete = false; servers = servers_ }
@@ -21,7 +21,7 @@ record_by servers x (NotRegistered prefix) = record_of (outcome.NotRegistered pr
 record_by servers x (Hole prefix) = record_of (outcome.Hole prefix)
 record_by servers x Outside = not_authoritative x
 
--- the ETR that a request goes on to
+-- the ETR to which a request is forwarded
 abbrev pub etr_by : Decision → Option Locator
 etr_by (Registered prefix etr) = Some etr
 etr_by (Child prefix set) = None

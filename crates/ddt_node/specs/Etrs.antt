@@ -1,4 +1,4 @@
--- A configuration in which a site has other ETRs: what registration changes, and all that it changes.
+-- A configuration in which a site has other ETRs. A registration changes this and nothing else.
 use Rattle.std.specs.Prelude.{ℕ, Bool, true, if◌then◌else◌, List, map}
 use Rattle.ddt_path.specs.declared.locator.Locator.{Locator}
 use Rattle.ddt_path.specs.Covers.{is_same_path}
@@ -13,7 +13,7 @@ use Rattle.ddt_config.specs.Shaped.{have_own_prefixes}
 abbrev pub site_with : List ℕ → List Locator → SiteEntry → SiteEntry
 site_with p e s = record { prefix = s.prefix; etrs = if is_same_path s.prefix p then e else s.etrs }
 
--- the same of all sites that an authority holds
+-- the same for the content of an authority
 abbrev pub content_with : List ℕ → List Locator → Content → Content
 content_with p e (Children cs) = Children cs
 content_with p e (Sites ss) = Sites (map (site_with p e) ss)

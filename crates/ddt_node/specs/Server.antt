@@ -1,5 +1,5 @@
 -- What a server does with a datagram (RFC 8111, sections 7.1 and 7.2). A DDT Map-Request, whose bit D is set, is
--- answered by a Map-Referral. A Map-Server that acknowledges it sends it on to the ETR of the site.
+-- answered by a Map-Referral. A Map-Server that acknowledges it forwards it to the ETR of the site.
 use Rattle.std.specs.Prelude.{ℕ, ◌≡◌, ◌+◌, ◌*◌, ◌/◌, ◌%◌, Bool, true, false, if◌then◌else◌, List, [], ◌∷◌, Option, Some, None, Result, Ok, Err, option_and_then, slice_get}
 use Rattle.std.specs.Option.{option_map, option_map_or}
 use Rattle.ddt_path.specs.declared.locator.Locator.{Locator}
@@ -17,7 +17,7 @@ use Rattle.ddt_wire.specs.Referral.{written, message_of, Message as ReferralMess
 use Rattle.ddt_ecm.specs.declared.fault.RequestFault.{RequestFault}
 use Rattle.ddt_ecm.specs.EcmHeader.{s_place, d_place}
 use Rattle.ddt_ecm.specs.Request.{Message, Spells as SpellsRequest, message_in}
-use Rattle.ddt_node.specs.declared.datagram.Buffered.{Buffered}
+use Rattle.ddt_node.specs.declared.datagram.BufferedReply.{BufferedReply}
 use Rattle.ddt_node.specs.declared.forward.Forward.{Forward}
 use Rattle.ddt_node.specs.declared.datagram.Handled.{Handled}
 
@@ -34,36 +34,36 @@ site_in x (Sites ss) = longest_match (λ s. s.prefix) ss x
 abbrev pub etr_in : List ℕ → Content → Option Locator
 etr_in x content = option_and_then (λ s. slice_get s.etrs 0) (site_in x content)
 
--- the ETR that an acknowledged request is sent on to
+-- the ETR to which an acknowledged request is forwarded
 abbrev pub first_etr : Outline → List ℕ → Option Locator
 first_etr c x = option_and_then (λ a. etr_in x a.content) (authority_of c x)
 
--- a datagram with the bit D of its first byte clear: the bits from S on, and those behind D
+-- a datagram with the bit D of its first byte clear: the bits down to S, and those after D
 abbrev pub without_d : List ℕ → List ℕ
 without_d [] = []
 without_d (b ∷ others) = (b / s_place * s_place + b % d_place) ∷ others
 
--- the request on its way to an ETR: as it came, but for the bit D, which is clear
+-- the request that is forwarded to an ETR: as it was received, but with the bit D clear
 abbrev pub forward_to : List ℕ → Locator → Forward
 forward_to bytes_ to_ = record { to = to_; bytes = without_d bytes_ }
 
--- the answer to a DDT Map-Request, and what is sent on
+-- the answer to a DDT Map-Request, and the forwarded request
 abbrev pub answered : Outline → List ℕ → Message → Handled
 answered c bytes m = record {
   reply = Some (written m.nonce (answer c (xeid_path m.xeid)));
   forward = option_map (forward_to bytes) (first_etr c (xeid_path m.xeid));
 }
 
--- nothing is answered and nothing is sent on
+-- no answer, and nothing is forwarded
 abbrev pub ignored : Handled
 ignored = record { reply = None; forward = None }
 
--- what is sent where the reply stands in a buffer
-abbrev pub in_buffer : List ℕ → Buffered → Handled
+-- what is sent, when the reply is in a buffer
+abbrev pub in_buffer : List ℕ → BufferedReply → Handled
 in_buffer bytes b = record { reply = if b.has_reply then Some bytes else None; forward = b.forward }
 
--- what is sent for a datagram that is ignored, where a reply would stand in a buffer: nothing
-abbrev pub nothing_sent : Buffered
+-- what is sent for a datagram that is ignored, when a reply would be in a buffer: nothing
+abbrev pub nothing_sent : BufferedReply
 nothing_sent = record { has_reply = false; forward = None }
 
 -- the bytes spell a DDT Map-Request
@@ -107,6 +107,6 @@ is_ack MsNotRegistered = false
 is_ack DelegationHole = false
 is_ack NotAuthoritative = false
 
--- whether a datagram is a DDT Map-Request that is answered by MS-ACK: just then the request goes on to an ETR
+-- whether a datagram is a DDT Map-Request that is answered by MS-ACK: only then is the request forwarded to an ETR
 abbrev pub acknowledges : Outline → List ℕ → Bool
 acknowledges c bytes = option_map_or (λ m. is_ack (answer c (xeid_path m.xeid)).action) (ddt_request bytes) false

@@ -1,4 +1,4 @@
-//! The server of the configuration that bytes spell.
+//! Reads a server's configuration from bytes, and adopts a new one.
 
 ghost use Rattle.std.specs.Prelude.{◌≡◌, ◌≢◌, ◌<◌, IfOk, IfErr, OnOk, OnErr};
 ghost use Rattle.std.specs.Str.{IsUtf8};
@@ -8,17 +8,17 @@ ghost use Rattle.ddt_config.specs.Entries.{entry_count};
 ghost use Rattle.ddt_config.specs.Table.{outline};
 ghost use Rattle.ddt_node.specs.Spelled.{HasRoom, IsServedConfig, IsConfigFault};
 
-use crate::index::has_room_for;
+use crate::place_index::has_room_for;
 use crate::server::Server;
 use ddt_config::{ConfigFault, ServerConfig, from_toml};
 use ddt_trie::PrefixMap;
 use std::alloc::Global;
 use std::str;
 
-/// The configuration that bytes spell, a text in TOML as `from_toml` reads it. A server can be built of it.
+/// Reads a configuration from bytes: a text in TOML, as `from_toml` reads it. A server can be built of it.
 ///
-/// Refused, by the first fault: 1 Toml also where the bytes are no UTF-8; 2 Field; 3 Value; 4 Shape also where a server
-/// has no room for it; 5 Memory, which may come in place of any other.
+/// Refused, by the first fault: 1 Toml, also if the bytes are no UTF-8; 2 Field; 3 Value; 4 Shape, also if a server has
+/// no room for it; 5 Memory, which may come in place of any other.
 pub fn config_in(alloc: Global, bytes: &[u8]) -> Result<ServerConfig, ConfigFault>
     ensures spelled { IfOk result (λ c. IsServedConfig bytes.now (outline c)) }
     ensures refused { IfErr result (λ fault. fault ≢ IsMemory → IsConfigFault bytes.now fault) }
@@ -41,7 +41,7 @@ fn text_in(bytes: &[u8]) -> Result<&str, ConfigFault>
     str::from_utf8(bytes).map_err(|_error| ConfigFault::Toml)
 }
 
-/// The configuration where a server has room for it; else 4 Shape.
+/// The configuration, if a server has room for it; else 4 Shape.
 fn with_room(config: ServerConfig) -> Result<ServerConfig, ConfigFault>
     ensures fits { IfOk result (λ c. (c ≡ config) × (entry_count (outline config) < most_entries)) }
     ensures full { IfErr result (λ fault. (fault ≡ IsShape) × ¬ (entry_count (outline config) < most_entries)) }
@@ -54,7 +54,7 @@ fn with_room(config: ServerConfig) -> Result<ServerConfig, ConfigFault>
 }
 
 impl<M: PrefixMap<u32>> Server<M> {
-    /// The server of the configuration that bytes spell; refused as `config_in` refuses them.
+    /// A server of the configuration in these bytes. Refused as `config_in` refuses them.
     pub fn read(alloc: Global, bytes: &[u8]) -> Result<Server<M>, ConfigFault>
         ensures spelled { IfOk result (λ server. IsServedConfig bytes.now server) }
         ensures refused { IfErr result (λ fault. fault ≢ IsMemory → IsConfigFault bytes.now fault) }
@@ -68,7 +68,7 @@ impl<M: PrefixMap<u32>> Server<M> {
         }
     }
 
-    /// The server of a configuration. Refused as 4 Shape where a server has no room for it, else only as 5 Memory.
+    /// A server of a configuration. Refused as 4 Shape if a server has no room for it, else only as 5 Memory.
     pub fn of_config(alloc: Global, config: ServerConfig) -> Result<Server<M>, ConfigFault>
         ensures built { IfOk result (λ server. (server ≡ outline config) × HasRoom (outline config)) }
         ensures refused { IfErr result (λ fault. fault ≢ IsMemory → (fault ≡ IsShape) × ¬ (HasRoom (outline config))) }
@@ -80,8 +80,8 @@ impl<M: PrefixMap<u32>> Server<M> {
         }
     }
 
-    /// Takes up a configuration in place of its own. Refused as `of_config` refuses it; then it goes on with its own.
-    pub fn take_up_config(&mut self, alloc: Global, config: ServerConfig) -> Result<(), ConfigFault>
+    /// Replaces the server's configuration. Refused as `of_config` refuses it; then the server is unchanged.
+    pub fn adopt_config(&mut self, alloc: Global, config: ServerConfig) -> Result<(), ConfigFault>
         ensures taken { OnOk result ((self.new ≡ outline config) × HasRoom (outline config)) }
         ensures refused { IfErr result (λ fault. fault ≢ IsMemory → (fault ≡ IsShape) × ¬ (HasRoom (outline config))) }
         ensures unchanged { OnErr result (self.new ≡ self.old) }
@@ -95,15 +95,15 @@ impl<M: PrefixMap<u32>> Server<M> {
         }
     }
 
-    /// Takes up the configuration that bytes spell, in place of its own. Refused as `config_in` refuses them; then it
-    /// goes on with its own.
-    pub fn take_up(&mut self, alloc: Global, bytes: &[u8]) -> Result<(), ConfigFault>
+    /// Replaces the server's configuration by the one in these bytes. Refused as `config_in` refuses them; then the
+    /// server is unchanged.
+    pub fn adopt(&mut self, alloc: Global, bytes: &[u8]) -> Result<(), ConfigFault>
         ensures taken { IfOk result (λ _. IsServedConfig bytes.now self.new) }
         ensures refused { IfErr result (λ fault. fault ≢ IsMemory → IsConfigFault bytes.now fault) }
         ensures unchanged { OnErr result (self.new ≡ self.old) }
     {
         match config_in(alloc, bytes) {
-            Ok(config) => self.take_up_config(alloc, config),
+            Ok(config) => self.adopt_config(alloc, config),
             Err(fault) => Err(fault),
         }
     }

@@ -1,4 +1,4 @@
-//! What a server sends for a datagram.
+//! The Map-Referral and the forwarded request that a server sends for a datagram.
 
 ghost use Rattle.std.specs.Prelude.{◌≡◌, is_some, None, Some, Ok, IfOk, OnOk};
 ghost use Rattle.ddt_ecm.specs.Request.{Message};
@@ -17,29 +17,29 @@ use ddt_trie::PrefixMap;
 use ddt_wire::put_referral;
 use std::alloc::{AllocError, Global};
 
-/// What is sent for a datagram.
+/// What a server sends for a datagram.
 #[derive(Debug, Drop)]
 pub struct Handled {
-    /// A Map-Referral to where the datagram came from.
+    /// The Map-Referral, to the source of the datagram.
     pub reply: Option<Listed<u8>>,
-    /// The request for the ETR of the site that is acknowledged.
+    /// The request that is forwarded to an ETR of the site, if the answer is MS-ACK.
     pub forward: Option<Forward>,
 }
 
-/// What is sent for a datagram whose reply stands in a buffer.
+/// What a server sends for a datagram, when the reply is in a buffer of the caller.
 #[derive(Debug, Drop)]
-pub struct Buffered {
-    /// Whether there is a reply.
+pub struct BufferedReply {
+    /// Whether there is a reply in the buffer.
     pub has_reply: bool,
-    /// The request for the ETR of the site that is acknowledged.
+    /// The request that is forwarded to an ETR of the site, if the answer is MS-ACK.
     pub forward: Option<Forward>,
 }
 
 impl<M: PrefixMap<u32>> Server<M> {
-    /// What is sent for a datagram. A DDT Map-Request, whose bit D is set, is answered by a Map-Referral with its
-    /// nonce and the answer for its identifier, to be sent to where it came from. On MS-ACK the datagram with that bit
-    /// clear goes on to the first ETR of the site (RFC 8111, sections 7.1 and 7.2). For any other datagram nothing is
-    /// sent, and nothing is allocated. Fails only if out of memory.
+    /// What is sent for a datagram. A DDT Map-Request, whose bit D is set, is answered by a Map-Referral to its source,
+    /// with its nonce and the answer for its identifier. On MS-ACK the datagram is also forwarded to the first ETR of
+    /// the site, with that bit clear (RFC 8111, sections 7.1 and 7.2). For any other datagram nothing is sent, and
+    /// nothing is allocated. Fails only if out of memory.
     pub fn handle(&self, alloc: Global, bytes: &[u8]) -> Result<Handled, AllocError>
         ensures handled { IfOk result (λ h. h ≡ handled_of self.now bytes.now) }
         ensures replied { (m : Message) → IsDdtRequest bytes.now m
@@ -48,7 +48,7 @@ impl<M: PrefixMap<u32>> Server<M> {
         ensures ignored { ddt_request_of bytes.now ≡ None → result ≡ Ok ignored_of }
     {
         let mut buffer = Vec::new(alloc);
-        let Buffered { has_reply, forward } = self.handle_into(alloc, bytes, &mut buffer)?;
+        let BufferedReply { has_reply, forward } = self.handle_into(alloc, bytes, &mut buffer)?;
         Ok(Handled {
             reply: if has_reply {
                 Some(Listed::of(buffer))
@@ -59,16 +59,16 @@ impl<M: PrefixMap<u32>> Server<M> {
         })
     }
 
-    /// What is sent for a datagram, as `handle` says it, but the reply is put into a buffer, in place of what that holds.
-    /// Where nothing is sent, the buffer stays as it is. It allocates only what the buffer lacks, and the request that
-    /// goes on. Fails only if out of memory.
+    /// Does what `handle` does, but writes the reply to a buffer, in place of its content. If nothing is sent, the
+    /// buffer is unchanged. Allocates only what the buffer lacks, and the forwarded request. Fails only if out of
+    /// memory.
     #[tactic(auto, using(crate::proofs::AnswerLemmas::acknowledged))]
     pub fn handle_into(
         &self,
         alloc: Global,
         bytes: &[u8],
         buffer: &mut Vec<u8>,
-    ) -> Result<Buffered, AllocError>
+    ) -> Result<BufferedReply, AllocError>
         ensures handled { IfOk result (λ b. in_buffer buffer.new.items b ≡ handled_of self.now bytes.now) }
         ensures replied { (m : Message) → IsDdtRequest bytes.now m
             → IfOk result (λ b. HasReply (in_buffer buffer.new.items b).reply (reply_to self.now m)) }
@@ -81,19 +81,19 @@ impl<M: PrefixMap<u32>> Server<M> {
                 let decision = self.decision(request.xeid());
                 self.put_reply(&request, &decision, buffer)?;
                 let forward = forward_to(alloc, decision.etr(), bytes)?;
-                Ok(Buffered {
+                Ok(BufferedReply {
                     has_reply: true,
                     forward,
                 })
             }
-            None => Ok(Buffered {
+            None => Ok(BufferedReply {
                 has_reply: false,
                 forward: None,
             }),
         }
     }
 
-    /// The reply to a datagram alone, as `handle` says it: no request is made for an ETR. Fails only if out of memory.
+    /// The reply of `handle` to a datagram, without a forwarded request. Fails only if out of memory.
     pub fn reply(&self, alloc: Global, bytes: &[u8]) -> Result<Option<Listed<u8>>, AllocError>
         ensures reply { IfOk result (λ r. r ≡ (handled_of self.now bytes.now).reply) }
         ensures replied { (m : Message) → IsDdtRequest bytes.now m
@@ -111,8 +111,8 @@ impl<M: PrefixMap<u32>> Server<M> {
         }
     }
 
-    /// Puts the reply to a DDT Map-Request, as this decides it, into a buffer, in place of what that holds. Fails only if
-    /// out of memory.
+    /// Writes the reply to a DDT Map-Request with this decision to a buffer, in place of its content. Fails only if out
+    /// of memory.
     fn put_reply(
         &self,
         request: &Request<'_>,
@@ -125,12 +125,12 @@ impl<M: PrefixMap<u32>> Server<M> {
             ≡ written request.now.nonce (answer_of self.now (xeid_path request.now.xeid))) }
         ensures spelled { OnOk result (HasReply (Some buffer.new.items) (reply_to self.now request.now)) }
     {
-        let record = decision.record(&self.config().locators, request.xeid());
+        let record = decision.record(self.locators(), request.xeid());
         put_referral(buffer, request.nonce(), &record)
     }
 }
 
-/// The request that the bytes are, if its bit D is set.
+/// The DDT Map-Request in these bytes. None if they are no request, or if its bit D is clear.
 fn ddt_request(bytes: &[u8]) -> Option<Request<'_>>
     ensures { result ≡ ddt_request_of bytes.now }
 {

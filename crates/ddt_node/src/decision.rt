@@ -1,4 +1,5 @@
-//! The answer for an identifier, by the maps of a server.
+//! The decision of a server for an identifier: the longest authority that covers it, and then the longest child or site
+//! in it, or the delegation hole.
 
 ghost use Rattle.std.specs.Prelude.{◌≡◌, ◌<◌, ◌≤◌, IsTrue, List, None, Some, length, map, slice_get, IfSome, IfNone};
 ghost use Rattle.std.specs.FinMap.{keys};
@@ -10,18 +11,20 @@ ghost use Rattle.ddt_path.specs.Path.{xeid_path};
 ghost use Rattle.ddt_path.specs.Covers.{covers};
 ghost use Rattle.ddt_path.specs.Free.{hole_of};
 ghost use Rattle.ddt_path.specs.Matching.{longest_match};
-ghost use Rattle.ddt_config.specs.Answer.{answer_in as answer_in_of, site_outcome as site_outcome_of, referral_to as referral_to_child};
+ghost use Rattle.ddt_config.specs.Answer.{answer as answer_of, answer_in as answer_in_of, site_outcome as site_outcome_of, referral_to as referral_to_child};
 ghost use Rattle.ddt_config.specs.Entries.{prefixes_in};
 ghost use Rattle.ddt_trie.specs.PrefixMap.{keys_below};
 ghost use Rattle.ddt_wire.specs.Referral.{lent_record};
 ghost use Rattle.ddt_node.specs.Places.{places as places_of};
-ghost use Rattle.ddt_node.specs.ReferralSets.{kept_sets, set_of, sets_in};
 ghost use Rattle.ddt_node.specs.declared.decision.Decision.TheVariants.{Hole};
 ghost use Rattle.ddt_node.specs.Decisions.{etr_by, record_by, whole_record};
-ghost use Rattle.ddt_node.specs.Server.{etr_in};
+ghost use Rattle.ddt_node.specs.Served.{content_of};
+ghost use Rattle.ddt_node.specs.Server.{etr_in, first_etr};
 
-use crate::referral_sets::{ReferralSet, ReferralSets};
-use ddt_config::{Authority, Child, Content, SiteEntry};
+use crate::delegations::{Delegations, ReferralSet};
+use crate::served_authority::{ServedAuthority, ServedContent};
+use crate::server::Server;
+use ddt_config::SiteEntry;
 use ddt_path::{
     Action, HOLE_TTL, Locator, LocatorSet, NOT_AUTHORITATIVE_TTL, NOT_REGISTERED_TTL, POSITIVE_TTL,
     Prefix, Prefixed, Role, Xeid,
@@ -29,7 +32,8 @@ use ddt_path::{
 use ddt_trie::PrefixMap;
 use ddt_wire::LentRecord;
 
-/// The place of the longest item that covers the identifier. An item that is alone is looked at without the map.
+/// The index of the item with the longest prefix that covers the identifier; None if no item covers it. A single item
+/// is compared directly.
 pub fn longest<T: Prefixed, M: PrefixMap<u32>>(items: &[T], places: &M, x: Xeid) -> Option<usize>
     requires { M.content places.now ≡ places_of (map T.path items.now) }
     ensures inside { IfSome result (λ at. at < length items.now) }
@@ -45,7 +49,7 @@ pub fn longest<T: Prefixed, M: PrefixMap<u32>>(items: &[T], places: &M, x: Xeid)
     }
 }
 
-/// The action of a referral to servers that are this.
+/// The action of a referral to servers of this role.
 fn referral_action(role: Role) -> Action
     ensures { result ≡ referral_action_of role }
 {
@@ -55,7 +59,7 @@ fn referral_action(role: Role) -> Action
     }
 }
 
-/// A record whose referral set is the whole of it.
+/// A record with a complete referral set: the bit Incomplete is clear.
 fn whole(action: Action, prefix: Prefix, ttl: u32, servers: &[Locator]) -> LentRecord<'_>
     ensures record { lent_record result ≡ whole_record action prefix ttl servers.now }
     ensures servers { result.servers.now ≡ servers.now }
@@ -69,33 +73,34 @@ fn whole(action: Action, prefix: Prefix, ttl: u32, servers: &[Locator]) -> LentR
     }
 }
 
-/// What decides the answer for an identifier. It lends what a referral names.
+/// The decision for an identifier, from which its record is made. It borrows the referral set of a child.
 #[derive(Clone, Copy, Debug)]
 pub enum Decision<'a> {
-    /// The child of this prefix, which has this referral set.
+    /// A referral to the child of this prefix, with its referral set.
     Child {
         prefix: Prefix,
         set: &'a ReferralSet,
     },
-    /// The site of this prefix, with the ETR that a request goes on to.
+    /// The site of this prefix has ETRs. The request is forwarded to the first, `etr`.
     Registered {
         prefix: Prefix,
         etr: Locator,
     },
-    /// This part of a site that has no ETR.
+    /// The site has no ETR. The prefix is the part of the site around the identifier.
     NotRegistered {
         prefix: Prefix,
     },
-    /// This delegation hole.
+    /// The delegation hole of this prefix.
     Hole {
         prefix: Prefix,
     },
-    /// That no authority covers the identifier.
+    /// No authority covers the identifier.
     Outside,
 }
 
 impl<'a> Decision<'a> {
-    /// The record that says so, of servers with these locators, for an identifier. It lends what it names.
+    /// The record of the decision for an identifier, at servers with these locators. It borrows the locators that it
+    /// has.
     pub fn record(&self, servers: &'a LocatorSet, x: Xeid) -> LentRecord<'a>
         ensures record { lent_record result ≡ record_by servers.now (xeid_path x) self.now }
         ensures few { length result.servers.now ≤ most_locators }
@@ -123,7 +128,7 @@ impl<'a> Decision<'a> {
         }
     }
 
-    /// The ETR that a request goes on to where it is acknowledged.
+    /// The ETR to which the request is forwarded; None unless it is acknowledged.
     pub fn etr(&self) -> Option<Locator>
         ensures { result ≡ etr_by self.now }
     {
@@ -134,20 +139,19 @@ impl<'a> Decision<'a> {
     }
 }
 
-/// The hole of an identifier that nothing in the authority covers: the least specific prefix in the authority that
-/// overlaps nothing there (RFC 8111, section 7.1.2).
-fn hole<M: PrefixMap<u32>>(authority: &Authority, places: &M, x: Xeid) -> Decision<'static>
-    requires places { M.content places.now ≡ places_of (prefixes_in authority.now.content) }
-    requires inside { IsTrue (covers authority.now.prefix (xeid_path x)) }
-    ensures { result ≡ Hole (hole_of authority.now.prefix (prefixes_in authority.now.content) (xeid_path x)) }
+/// The delegation hole around an identifier that no child or site of the authority covers. It is the least specific
+/// prefix in the authority that covers the identifier and overlaps none of them (RFC 8111, section 7.1.2).
+fn hole<M: PrefixMap<u32>>(authority: Prefix, places: &M, x: Xeid) -> Decision<'static>
+    requires { IsTrue (covers authority (xeid_path x)) }
+    ensures { result ≡ Hole (hole_of authority (keys (M.content places.now)) (xeid_path x)) }
 {
     Decision::Hole {
-        prefix: places.free(authority.prefix, x).unwrap_or(Prefix::host(x)),
+        prefix: places.free(authority, x).unwrap_or(Prefix::host(x)),
     }
 }
 
-/// The part of a site around an identifier: the least specific prefix in it that overlaps none of the prefixes inside
-/// the site.
+/// The part of a site around an identifier: the least specific prefix in the site that covers the identifier and
+/// overlaps none of the prefixes inside the site.
 fn part_of<M: PrefixMap<u32>>(site: Prefix, places: &M, x: Xeid) -> Prefix
     requires { IsTrue (covers site (xeid_path x)) }
     ensures { result ≡ hole_of site (keys_below (M.content places.now) site) (xeid_path x) }
@@ -155,7 +159,7 @@ fn part_of<M: PrefixMap<u32>>(site: Prefix, places: &M, x: Xeid) -> Prefix
     places.free_below(site, x).unwrap_or(Prefix::host(x))
 }
 
-/// What the site says that an identifier belongs to: registered where it has an ETR, the first of which is told.
+/// The decision in the site that an identifier belongs to: registered with the first ETR of the site, if it has one.
 fn site_decision<M: PrefixMap<u32>>(site: &SiteEntry, places: &M, x: Xeid) -> Decision<'static>
     requires { IsTrue (covers site.now.prefix (xeid_path x)) }
     ensures record { (servers : List ALocator) → record_by servers (xeid_path x) result
@@ -173,15 +177,13 @@ fn site_decision<M: PrefixMap<u32>>(site: &SiteEntry, places: &M, x: Xeid) -> De
     }
 }
 
-/// What the longest child says that covers the identifier, None where none does.
+/// The decision in the longest child that covers the identifier. None if no child covers it.
 fn child_decision<'a, M: PrefixMap<u32>>(
-    children: &[Child],
+    children: &'a Delegations,
     places: &M,
-    referrals: &'a ReferralSets,
     x: Xeid,
 ) -> Option<Decision<'a>>
-    requires places { M.content places.now ≡ places_of (map (λ c. c.prefix) children.now) }
-    requires kept { kept_sets referrals.now ≡ map (λ c. Some (set_of c)) children.now }
+    requires { M.content places.now ≡ places_of (map (λ c. c.prefix) children.now) }
     ensures record { IfSome result (λ d. (servers : List ALocator) → Some (record_by servers (xeid_path x) d)
         ≡ option_map referral_to_child (longest_match (λ c. c.prefix) children.now (xeid_path x))) }
     ensures etr { IfSome result (λ d. etr_by d ≡ None) }
@@ -189,7 +191,7 @@ fn child_decision<'a, M: PrefixMap<u32>>(
 {
     match places.longest(x) {
         Some(found) => {
-            let set = referrals.at(children, *found.1 as usize);
+            let set = children.set_at(*found.1 as usize);
             let prefix = found.0;
             Some(Decision::Child { prefix, set })
         }
@@ -197,30 +199,57 @@ fn child_decision<'a, M: PrefixMap<u32>>(
     }
 }
 
-/// What decides in the authority that the identifier belongs to.
-pub fn decision_in<'a, M: PrefixMap<u32>>(
-    authority: &Authority,
+/// The decision in an authority of this prefix and content, which covers the identifier.
+fn decision_by<'a, M: PrefixMap<u32>>(
+    authority: Prefix,
+    content: &'a ServedContent,
     places: &M,
-    referrals: &'a ReferralSets,
+    x: Xeid,
+) -> Decision<'a>
+    requires places { M.content places.now ≡ places_of (prefixes_in (content_of content.now)) }
+    requires inside { IsTrue (covers authority (xeid_path x)) }
+    ensures record { (servers : List ALocator) → record_by servers (xeid_path x) result
+        ≡ answer_in_of servers authority (content_of content.now) (xeid_path x) }
+    ensures etr { etr_by result ≡ etr_in (xeid_path x) (content_of content.now) }
+{
+    match content {
+        ServedContent::Children(children) => match child_decision(children, places, x) {
+            Some(decision) => decision,
+            None => hole(authority, places, x),
+        },
+        ServedContent::Sites(sites) => match longest(sites.as_slice(), places, x) {
+            Some(at) => site_decision(&sites.as_slice()[at], places, x),
+            None => hole(authority, places, x),
+        },
+    }
+}
+
+/// The decision in an authority that covers the identifier.
+pub fn decision_in<'a, M: PrefixMap<u32>>(
+    authority: &'a ServedAuthority,
+    places: &M,
     x: Xeid,
 ) -> Decision<'a>
     requires places { M.content places.now ≡ places_of (prefixes_in authority.now.content) }
-    requires kept { kept_sets referrals.now ≡ sets_in authority.now.content }
     requires inside { IsTrue (covers authority.now.prefix (xeid_path x)) }
     ensures record { (servers : List ALocator) → record_by servers (xeid_path x) result
         ≡ answer_in_of servers authority.now.prefix authority.now.content (xeid_path x) }
     ensures etr { etr_by result ≡ etr_in (xeid_path x) authority.now.content }
 {
-    match &authority.content {
-        Content::Children(children) => {
-            match child_decision(children.as_slice(), places, referrals, x) {
-                Some(decision) => decision,
-                None => hole(authority, places, x),
-            }
+    decision_by(authority.prefix, &authority.content, places, x)
+}
+
+impl<M: PrefixMap<u32>> Server<M> {
+    /// The decision for an identifier, made in the longest authority of the server that covers it; `Outside` where none
+    /// does. It allocates nothing.
+    pub(crate) fn decision(&self, x: Xeid) -> Decision<'_>
+        ensures record { record_by self.now.locators (xeid_path x) result ≡ answer_of self.now (xeid_path x) }
+        ensures etr { etr_by result ≡ first_etr self.now (xeid_path x) }
+    {
+        let authorities = self.authorities.as_slice();
+        match longest(authorities, &self.index.authorities, x) {
+            Some(at) => decision_in(&authorities[at], &self.index.contents[at], x),
+            None => Decision::Outside,
         }
-        Content::Sites(sites) => match longest(sites.as_slice(), places, x) {
-            Some(at) => site_decision(&sites.as_slice()[at], places, x),
-            None => hole(authority, places, x),
-        },
     }
 }

@@ -1,4 +1,4 @@
-//! The request of an ITR on its way to an ETR, its bit D clear (RFC 8111, section 7.2).
+//! The request of an ITR that is forwarded to an ETR, with the bit D clear (RFC 8111, section 7.2).
 
 ghost use Rattle.std.specs.Prelude.{◌≡◌, IfOk};
 ghost use Rattle.std.specs.Option.{option_map};
@@ -8,16 +8,16 @@ use ddt_ecm::DDT;
 use ddt_path::{Listed, Locator};
 use std::alloc::{AllocError, Global};
 
-/// A request on its way to an ETR.
+/// A request to be forwarded to an ETR.
 #[derive(Debug, Drop)]
 pub struct Forward {
     /// The ETR.
     pub to: Locator,
-    /// The request, as it came but for the bit D, which is clear.
+    /// The request as it was received, but with the bit D clear.
     pub bytes: Listed<u8>,
 }
 
-/// The request as it goes on to an ETR, if one is given.
+/// The request to be forwarded to an ETR; None without an ETR. Fails only if out of memory.
 pub fn forward_to(
     alloc: Global,
     etr: Option<Locator>,
@@ -28,14 +28,15 @@ pub fn forward_to(
     match etr {
         Some(to) => Ok(Some(Forward {
             to,
-            bytes: Listed::of(plain_request(alloc, request)?),
+            bytes: Listed::of(clear_ddt_bit(alloc, request)?),
         })),
         None => Ok(None),
     }
 }
 
-/// The datagram with the bit D clear.
-fn plain_request(alloc: Global, request: &[u8]) -> Result<Vec<u8>, AllocError>
+/// A copy of an Encapsulated Control Message with the bit D of its header clear; an empty datagram has none to clear.
+/// Fails only if out of memory.
+pub fn clear_ddt_bit(alloc: Global, request: &[u8]) -> Result<Vec<u8>, AllocError>
     ensures { IfOk result (λ bytes. bytes.items ≡ without_d request.now) }
 {
     let mut bytes = Vec::from_slice(alloc, request)?;

@@ -1,21 +1,23 @@
-//! A server of one configuration: which Map-Referral answers an identifier, and what is sent for a datagram.
+//! A server of one configuration: which Map-Referral answers an identifier, and what the server sends for a datagram.
 //!
-//! In reading order: `server`, `referral_sets`, `index`, `configuration`, `decision`, `etrs`, `forward`,
-//! `datagram`.
+//! In reading order: `server`, `served_authority`, `delegations`, `place_index`, `configuration`, `decision` (the
+//! longest authority that covers an identifier, and the answer of it), `site_etrs`, `forward`, `datagram`.
 //! Tests: ddt_server_tests/node.
 #![tactic(auto)]
 
 mod configuration;
 mod datagram;
 mod decision;
-mod etrs;
+mod delegations;
 mod forward;
-mod index;
-mod referral_sets;
+mod place_index;
+mod served_authority;
 mod server;
+mod site_etrs;
 
 pub use configuration::config_in;
-pub use datagram::{Buffered, Handled};
-pub use forward::Forward;
-pub use index::{has_room_for, places};
+pub use datagram::{BufferedReply, Handled};
+pub use forward::{Forward, clear_ddt_bit};
+pub use place_index::{has_room_for, places};
+pub use served_authority::ServedAuthority;
 pub use server::Server;

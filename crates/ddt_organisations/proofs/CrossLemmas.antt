@@ -23,8 +23,8 @@ use Rattle.ddt_compile.specs.laws.Statements.{AnswersHonestly}
 use Rattle.ddt_plan.specs.declared.groups.GroupChangeKind.TheVariants.{Changed}
 use Rattle.ddt_plan.specs.Changes.{are_same_servers}
 use Rattle.ddt_plan.specs.Groups.{are_alike, is_same_authority, is_same_content, is_same_config, change_of_config}
-use Rattle.ddt_seam.specs.Laws.{SidesAnswerAsJoined, GoodSeamsAreRun}
-use Rattle.ddt_seam.specs.Seam.{is_run_from}
+use Rattle.ddt_organisations.specs.Seam.Laws.{SidesAnswerAsJoined, GoodSeamsAreRun}
+use Rattle.ddt_organisations.specs.Seam.Seam.{is_run_from}
 use Rattle.ddt_organisations.specs.Tree.{Organisation, HaveGoodSeam}
 use Rattle.ddt_organisations.proofs.GroupLemmas.{named, is_group, config_is, zone_there, group_there}
 

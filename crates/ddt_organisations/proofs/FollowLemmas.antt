@@ -19,8 +19,8 @@ use Rattle.ddt_check.specs.Assignment.{assignment}
 use Rattle.ddt_check.specs.Says.{says}
 use Rattle.ddt_check.specs.Zones.{zone_of, locators_of, roots}
 use Rattle.ddt_check.specs.laws.Statements.{IsFinal, IsItsZone}
-use Rattle.ddt_seam.specs.Walk as walk
-use Rattle.ddt_seam.specs.Walk.{Replies, IsWalk}
+use Rattle.ddt_organisations.specs.Seam.Walk as walk
+use Rattle.ddt_organisations.specs.Seam.Walk.{Replies, IsWalk}
 use Rattle.ddt_organisations.specs.Tree.{Organisation, IsDelegated, IsTree}
 use Rattle.ddt_organisations.specs.Charge as charge
 use Rattle.ddt_organisations.specs.Charge.{IsInCharge, IsOwn, AreRunByAll}

@@ -12,7 +12,7 @@ use Rattle.ddt_register.specs.declared.register.Register.{Register}
 use Rattle.ddt_check.specs.Zones.{group_named}
 use Rattle.ddt_config.specs.Table.{Outline}
 use Rattle.ddt_compile.specs.GroupConfig.{group_config, config_named}
-use Rattle.ddt_seam.specs.Joined.{zone_text, group_text, lacks_zone, lacks_group, IsJoined}
+use Rattle.ddt_organisations.specs.Seam.Joined.{zone_text, group_text, lacks_zone, lacks_group, IsJoined}
 
 pub in_left_part : {A : Type 0} (xs ys : List A) (a : A) → IsIn a xs → IsIn a (xs ++ ys)
 in_left_part [] ys a k = absurd k

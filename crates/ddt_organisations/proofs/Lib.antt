@@ -5,8 +5,9 @@ mod FollowLemmas
 mod PrefixLemmas
 mod ToldLemmas
 mod RunnerLemmas
-mod SeamLemmas
+mod MeetingLemmas
 mod FaultLemmas
 mod PairLemmas
 mod ChargeLemmas
 mod TreeLemmas
+pub mod SeamLemmas

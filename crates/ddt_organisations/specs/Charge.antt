@@ -9,7 +9,7 @@ use Rattle.ddt_register.specs.declared.group.Group.{Group}
 use Rattle.ddt_check.specs.Zones.{zone_of}
 use Rattle.ddt_config.specs.Answer.{answer}
 use Rattle.ddt_compile.specs.GroupConfig.{group_config}
-use Rattle.ddt_seam.specs.Walk.{Replies}
+use Rattle.ddt_organisations.specs.Seam.Walk.{Replies}
 use Rattle.ddt_organisations.specs.Tree.{Organisation}
 
 -- Asked for an identifier, an organisation looks for the longest zone that covers it. It is in charge where it runs

@@ -4,8 +4,8 @@ use Rattle.ddt_register.specs.declared.zone.Zone.{Zone}
 use Rattle.ddt_register.specs.declared.register.Register.{Register}
 use Rattle.ddt_register.specs.Rows.{most_rows}
 use Rattle.ddt_check.specs.Rules.{IsAccepted}
-use Rattle.ddt_seam.specs.Joined.{IsJoined, joined_rows}
-use Rattle.ddt_seam.specs.Seam.{is_good_seam}
+use Rattle.ddt_organisations.specs.Seam.Joined.{IsJoined, joined_rows}
+use Rattle.ddt_organisations.specs.Seam.Seam.{is_good_seam}
 use Rattle.ddt_organisations.specs.declared.organisation as code
 use Rattle.ddt_organisations.specs.declared.faults.TreeFault.{TreeFault}
 use Rattle.ddt_organisations.specs.declared.faults.TreeFault.TheVariants.{RootNotRun, Inside, NobodyRuns, BadSeam, TooManyRows}
@@ -57,12 +57,12 @@ IsOfSeam n m (NobodyRuns i row) = ⊥
 IsOfSeam n m (BadSeam i j lines) = (i ≡ n) × (j ≡ m)
 IsOfSeam n m (TooManyRows i j) = (i ≡ n) × (j ≡ m)
 
--- the seam of two is good, or a fault of it is told
+-- the seam of two is good, or the list has a fault of it
 abbrev pub IsSeamTold : Organisation → Organisation → ℕ → ℕ → List TreeFault → Type 0
 IsSeamTold o other n m faults =
     HaveGoodSeam o other ⊎ ((f : TreeFault) × Contains faults f × IsOfSeam n m f)
 
--- all that is wrong with an organisation is told
+-- the list has all faults of an organisation
 pub record IsToldOf (all : List code.Organisation.Organisation) (n : ℕ) (o : code.Organisation.Organisation)
     (faults : List TreeFault) : Type 0 where
   pub inside : (z : Zone) → Contains o.register.zones z → is_inside (seen o) z ≡ true
@@ -72,7 +72,7 @@ pub record IsToldOf (all : List code.Organisation.Organisation) (n : ℕ) (o : c
   pub seams : (m : ℕ) (other : code.Organisation.Organisation) → IsNumber all m other
       → meets (seen o) (seen other) ≡ true → IsSeamTold (seen o) (seen other) n m faults
 
--- What is wrong with organisations: each fault is true, and all that is wrong is told.
+-- What is wrong with organisations: each fault is true, and the list has all of them.
 pub record AreTreeFaults (all : List code.Organisation.Organisation) (faults : List TreeFault) : Type 0 where
   pub are_true : (f : TreeFault) → Contains faults f → IsTrueFault all f
   pub root : first_runs_root all ≡ false → Contains faults RootNotRun
@@ -122,7 +122,7 @@ IsSeamFault all n m None = (o other : code.Organisation.Organisation) → IsNumb
     → HaveGoodSeam (seen o) (seen other)
 IsSeamFault all n m (Some f) = IsTrueFault all f × IsOfSeam n m f
 
--- the seam of two numbers is good, or a fault of it is told
+-- the seam of two numbers is good, or the list has a fault of it
 abbrev pub IsPairTold : List code.Organisation.Organisation → ℕ → ℕ → List TreeFault → Type 0
 IsPairTold all n m faults = (o other : code.Organisation.Organisation) → IsNumber all n o → IsNumber all m other
     → IsSeamTold (seen o) (seen other) n m faults

@@ -1,4 +1,4 @@
--- What is kept of organisations while they are looked at.
+-- The maps of organisations by which their faults are found.
 use Rattle.std.specs.Prelude.{◌≡◌, ◌↔◌, ◌⊎◌, ℕ, true, is_some, slice_get, List, Some, Contains}
 use Rattle.std.specs.List.{list_any}
 use Rattle.std.specs.FinMap.{FinMap, get}

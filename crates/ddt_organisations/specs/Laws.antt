@@ -5,7 +5,7 @@ use Rattle.ddt_path.specs.Records.{record_of}
 use Rattle.ddt_check.specs.Assignment.{assignment}
 use Rattle.ddt_register.specs.declared.zone.Zone.{Zone}
 use Rattle.ddt_check.specs.Zones.{roots, zone_of}
-use Rattle.ddt_seam.specs.Walk.{Replies, IsWalk}
+use Rattle.ddt_organisations.specs.Seam.Walk.{Replies, IsWalk}
 use Rattle.ddt_organisations.specs.Tree.{Organisation, IsTree}
 use Rattle.ddt_organisations.specs.Charge.{IsInCharge, IsOwn, AreRunByAll}
 

@@ -5,3 +5,4 @@ pub mod Meets
 pub mod Found
 pub mod Faults
 pub mod Asked
+pub mod Seam

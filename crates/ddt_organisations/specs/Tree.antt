@@ -5,8 +5,8 @@ use Rattle.ddt_path.specs.Covers.{is_strictly_below}
 use Rattle.ddt_register.specs.declared.zone.Zone.{Zone}
 use Rattle.ddt_register.specs.declared.register.Register.{Register}
 use Rattle.ddt_check.specs.Rules.{IsAccepted}
-use Rattle.ddt_seam.specs.Joined.{IsJoined}
-use Rattle.ddt_seam.specs.Seam.{is_good_seam}
+use Rattle.ddt_organisations.specs.Seam.Joined.{IsJoined}
+use Rattle.ddt_organisations.specs.Seam.Seam.{is_good_seam}
 
 -- an organisation: its register, and the names of the groups whose servers it runs
 pub record Organisation : Type 0 where

@@ -1,4 +1,4 @@
-//! What an organisation delegates: the zones, and their prefixes as a map, so that each look takes one path.
+//! The zones that an organisation delegates, and a map of their prefixes.
 
 ghost use Rattle.std.specs.Prelude.{◌≡◌, ◌<◌, List, length, IfOk};
 ghost use Rattle.std.specs.List.{filter, list_any};
@@ -15,7 +15,7 @@ use ddt_register::Zone;
 use ddt_trie::{PrefixMap, TrieMap};
 use std::alloc::{AllocError, Global};
 
-/// What an organisation delegates.
+/// The zones that an organisation delegates.
 #[derive(Drop)]
 pub struct Delegations {
     /// The zones that it delegates, in the order of its rows.
@@ -25,7 +25,7 @@ pub struct Delegations {
 }
 
 impl Delegations {
-    /// What an organisation delegates. Fails only if out of memory.
+    /// The zones that an organisation delegates. Fails only if out of memory.
     pub fn of(alloc: Global, organisation: &Organisation) -> Result<Delegations, AllocError>
         ensures { IfOk result (λ found. AreDelegations (seen organisation.now) found) }
     {
@@ -36,7 +36,7 @@ impl Delegations {
         Ok(Delegations { zones, rows })
     }
 
-    /// Whether a zone is inside one of those that it delegates.
+    /// Whether a zone is strictly inside one of the zones that it delegates.
     pub fn have_inside(&self, zone: &Zone) -> bool
         requires { HasPrefixes self.now.zones.items (trie_content self.now.rows) }
         ensures { result ≡ list_any (λ z. is_strictly_below zone.now.prefix z.prefix) self.now.zones.items }
@@ -57,7 +57,7 @@ fn own_zones(alloc: Global, organisation: &Organisation) -> Result<Vec<Zone>, Al
         .collect(alloc)
 }
 
-/// The zones that an organisation doesn't run, below one that it does. Fails only if out of memory.
+/// The zones that an organisation doesn't run, strictly below one that it runs. Fails only if out of memory.
 fn delegated_zones(
     alloc: Global,
     organisation: &Organisation,
@@ -101,7 +101,7 @@ fn rows_by_prefix(alloc: Global, zones: &[Zone]) -> Result<TrieMap<u32>, AllocEr
     Ok(rows)
 }
 
-/// Whether a map has a prefix strictly above this one: what is strictly above a prefix covers the next shorter one.
+/// Whether a map has a prefix strictly above this one. A prefix strictly above another covers the next shorter prefix.
 fn has_above(rows: &TrieMap<u32>, prefix: Prefix) -> bool
     ensures { (zones : List AZone) → HasPrefixes zones (trie_content rows.now)
         → result ≡ list_any (λ z. is_strictly_below prefix z.prefix) zones }

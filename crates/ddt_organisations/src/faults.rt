@@ -1,4 +1,4 @@
-//! What is wrong with organisations that make no tree.
+//! The faults of organisations that are no tree.
 
 ghost use Rattle.std.specs.Prelude.{◌≡◌, ◌==◌, [], ◌++◌, ℕ, true, map, length, IfOk, OnOk, slice_get};
 ghost use Rattle.std.specs.List.{filter};
@@ -13,13 +13,13 @@ ghost use Rattle.ddt_organisations.specs.Faults.{AreTreeFaults, MakeTree, IsFoll
 use crate::delegations::Delegations;
 use crate::laws::{someone_is_in_charge, walks_end_in_charge};
 use crate::organisation::Organisation;
-use crate::runners::{numbers_at, numbers_of, runners_of};
+use crate::organisations_by_group::{numbers_at, numbers_of, runners_of};
+use crate::seam::{SeamReport, seam_lines};
 use ddt_path::Name;
-use ddt_seam::{Told, seam_lines};
 use std::alloc::{AllocError, Global};
 use std::collections::{BTreeMap, BTreeSet};
 
-/// What is wrong with organisations that make no tree. An organisation goes by its number in the list, from 0, and a
+/// A fault of organisations, which are then no tree. An organisation is given by its index in the list, from 0, and a
 /// zone by its row in the organisation's register.
 #[derive(Drop)]
 pub enum TreeFault {
@@ -35,8 +35,8 @@ pub enum TreeFault {
         organisation: usize,
         row: u32,
     },
-    /// The organisation delegates a zone to the other, and the seam of their registers isn't good: the lines of the
-    /// seam.
+    /// The organisation delegates a zone to the other, and the seam of their registers isn't good. It has the lines of
+    /// the seam.
     BadSeam {
         organisation: usize,
         other: usize,
@@ -49,10 +49,10 @@ pub enum TreeFault {
     },
 }
 
-/// What is wrong with organisations, each of which runs some servers from its own register, so that they make no tree
-/// (RFC 8111, section 4). The first is to run the root. None is to say what is inside a zone that it delegates, and
-/// another is to run that. All that meet so are to have a good seam. Where nothing is wrong, referrals that are
-/// followed from the root end in what the register in charge of the identifier assigns. Fails only if out of memory.
+/// The faults of organisations, each of which runs some servers from its own register (RFC 8111, section 4). The first
+/// one must run the root. The register of none may have a zone inside a zone that it delegates, and some organisation
+/// must run each delegated zone. The seam of each two that meet so must be good. If there is no fault, following
+/// referrals from the root ends in what the register in charge of the identifier assigns. Fails only if out of memory.
 pub fn tree_faults(alloc: Global, all: &[Organisation]) -> Result<Vec<TreeFault>, AllocError>
     ensures faults { IfOk result (λ faults. AreTreeFaults all.now faults.items) }
     ensures tree { IfOk result (λ faults. faults.items ≡ [] → MakeTree all.now) }
@@ -63,7 +63,7 @@ pub fn tree_faults(alloc: Global, all: &[Organisation]) -> Result<Vec<TreeFault>
     all_faults(alloc, all)
 }
 
-/// What is wrong with organisations.
+/// The faults of organisations.
 fn all_faults(alloc: Global, all: &[Organisation]) -> Result<Vec<TreeFault>, AllocError>
     ensures { IfOk result (λ faults. AreTreeFaults all.now faults.items) }
 {
@@ -88,7 +88,7 @@ fn first_runs_root(all: &[Organisation]) -> bool
     }
 }
 
-/// Appends what is wrong with one of them.
+/// Appends the faults of one organisation.
 fn push_faults(
     faults: &mut Vec<TreeFault>,
     alloc: Global,
@@ -110,7 +110,7 @@ fn push_faults(
     Ok(())
 }
 
-/// Appends the zones inside what an organisation delegates.
+/// Appends a fault for each zone of an organisation that is inside a zone that it delegates.
 fn push_inside(
     faults: &mut Vec<TreeFault>,
     delegations: &Delegations,
@@ -132,7 +132,7 @@ fn push_inside(
     Ok(())
 }
 
-/// Appends the delegated zones whose group nobody runs.
+/// Appends a fault for each delegated zone whose group nobody runs.
 fn push_not_run(
     faults: &mut Vec<TreeFault>,
     delegations: &Delegations,
@@ -153,7 +153,7 @@ fn push_not_run(
     Ok(())
 }
 
-/// Appends what is wrong with the seams of an organisation with others.
+/// Appends the faults of the seams of an organisation with others.
 fn push_seams(
     faults: &mut Vec<TreeFault>,
     alloc: Global,
@@ -171,7 +171,7 @@ fn push_seams(
     Ok(())
 }
 
-/// Appends what is wrong with the seam of two organisations that meet.
+/// Appends the fault of the seam of two organisations that meet, if it has one.
 fn push_seam(
     faults: &mut Vec<TreeFault>,
     alloc: Global,
@@ -193,7 +193,7 @@ fn push_seam(
     }
 }
 
-/// What is wrong with the seam of two organisations that meet.
+/// The fault of the seam of two organisations that meet, if it has one.
 fn seam_fault(
     alloc: Global,
     all: &[Organisation],
@@ -210,7 +210,7 @@ fn seam_fault(
         return Ok(None);
     };
     let found = seam_lines(alloc, &theirs.groups, &ours.register, &theirs.register)?;
-    let Some(Told { text, is_good }) = found else {
+    let Some(SeamReport { text, is_good }) = found else {
         return Ok(Some(TreeFault::TooManyRows {
             organisation: number,
             other,

@@ -2,15 +2,15 @@
 
 ghost use Rattle.ddt_organisations.specs.Laws.{WalksEndInCharge, SomeoneIsInCharge, TreesHandOn};
 
+use crate::seam::{good_seams_are_run, sides_answer_as_joined};
 use ddt_check::{
     each_identifier_has_a_zone, each_zone_has_servers, honest_servers_lead_to_the_assignment,
 };
 use ddt_compile::a_compiled_configuration_answers_honestly;
-use ddt_seam::{good_seams_are_run, sides_answer_as_joined};
 
-/// Where all seams of a tree of organisations are good, referrals that are followed from the root, over the servers of
-/// all of them, end in what the register in charge of the identifier assigns (RFC 8111, section 7.3). No register has
-/// the rows of all, so there may be more of them than one register has.
+/// If all seams of a tree of organisations are good, following referrals from the root, over the servers of all of
+/// them, ends in what the register in charge of the identifier assigns (RFC 8111, section 7.3). No register has the
+/// rows of all organisations, so together they may have more than the most rows of a register.
 pub fn walks_end_in_charge()
     ensures { WalksEndInCharge }
 {
@@ -34,8 +34,8 @@ pub fn someone_is_in_charge()
     honest_servers_lead_to_the_assignment();
 }
 
-/// In such a tree who doesn't run the longest zone that it has for an identifier hands it on to one that has a longer
-/// one of its own.
+/// In such a tree, an organisation that doesn't run its longest zone for an identifier refers to one that runs a longer
+/// zone of its own register.
 pub(crate) fn trees_hand_on()
     ensures { TreesHandOn }
 {

@@ -3,6 +3,7 @@ pub mod DigitLemmas
 pub mod FormOf
 pub mod FormOrder
 pub mod FormLemmas
+pub mod Packed
 pub mod Covers
 pub mod Matching
 pub mod Free

@@ -15,32 +15,47 @@ use crate::masks::{front32, is_front32};
 use crate::xeid::Xeid;
 use std::cmp::Ordering;
 use std::marker::Model;
+use std::mem::size_of;
 
 /// The first digits of the paths of identifiers: everything, a range of instances, or a block of addresses in one
-/// instance. Its length is from 0 to 65 or 161. Contracts see the path.
+/// instance. Its length is from 0 to 65 or 161. Contracts see the path. It keeps the numbers of its form in 24 bytes,
+/// where the form takes 64.
 #[derive(Clone, Copy, Debug)]
 pub struct Prefix {
-    form: Form,
+    /// The first 64 digits of an IPv6 address; else 0.
+    high: u64,
+    /// An IPv4 address, the last 64 digits of an IPv6 address, or 0.
+    low: u64,
+    iid: u32,
+    /// The family symbol of a block, 4 or 6; 0 of a range.
+    family: u8,
+    /// The length as the form has it.
+    len: u8,
 }
 
+const _: () = prove!(size_of::<Prefix>() == 24);
+
+/// How many values half an IPv6 address has.
+const HALF: u128 = 1 << 64;
+
 impl Model for Prefix {
-    ghost use Rattle.std.specs.Prelude.{List, ℕ};
+    ghost use Rattle.std.specs.Prelude.{◌≡◌, List, ℕ};
 
     ghost Value = { List ℕ };
 
     ghost use Rattle.ddt_path.specs.Path.{path, IsForm};
     ghost use Rattle.ddt_path.specs.FormOf.{form_of};
+    ghost use Rattle.ddt_path.specs.Packed.{form_at, packed};
     ghost use Rattle.ddt_path.specs.FormLemmas.{form_of-path};
-    ghost use Rattle.ddt_path.specs.declared.form.Form.{Form};
-    ghost use Rattle.std.proofs.Common.{ap};
+    ghost use Rattle.std.proofs.Common.{ap, ◌∙◌};
 
-    ghost view = { λ a. path a.form };
+    ghost view = { λ a. path (form_at a) };
 
-    ghost invariant = { λ a. IsForm a.form };
+    ghost invariant = { λ a. IsForm (form_at a) × (packed (form_at a) ≡ a) };
 
-    ghost inverse = { λ ds. record { form = form_of ds } };
+    ghost inverse = { λ ds. packed (form_of ds) };
 
-    ghost inverse_ok = { λ a h. ap (λ (f : Form). record { form = f }) (form_of-path a.form h) };
+    ghost inverse_ok = { λ a h. ap packed (form_of-path (form_at a) h.0) ∙ h.1 };
 }
 
 impl Prefix {
@@ -55,9 +70,7 @@ impl Prefix {
         if !is_front32(iid, len) {
             return Err(PrefixFault::TailNotZero);
         }
-        Ok(Prefix {
-            form: Form::Range { iid, len },
-        })
+        Ok(Prefix::of_form(Form::Range { iid, len }))
     }
 
     /// The addresses of one instance and family that have the first `len` digits of `address`. Refused as 1 Length
@@ -71,9 +84,7 @@ impl Prefix {
         if !address.is_front(len) {
             return Err(PrefixFault::TailNotZero);
         }
-        Ok(Prefix {
-            form: Form::Block { iid, address, len },
-        })
+        Ok(Prefix::of_form(Form::Block { iid, address, len }))
     }
 
     /// The prefix that covers this identifier alone. Being a path is a test on lists, which just the paths of
@@ -84,13 +95,11 @@ impl Prefix {
         ensures only { (ds : List ℕ) → IsTrue (is_path ds) → (y : AnXeid) × IsInRange y × (xeid_path y ≡ ds) }
     {
         let len = x.address.width();
-        Prefix {
-            form: Form::Block {
-                iid: x.iid,
-                address: x.address,
-                len,
-            },
-        }
+        Prefix::of_form(Form::Block {
+            iid: x.iid,
+            address: x.address,
+            len,
+        })
     }
 
     /// The first `len` digits of the identifier's path; `len` is at most 65 for IPv4 and 161 for IPv6.
@@ -99,21 +108,32 @@ impl Prefix {
         ensures { result ≡ take len (xeid_path x) }
     {
         if len <= 32 {
-            return Prefix {
-                form: Form::Range {
-                    iid: front32(x.iid, len),
-                    len,
-                },
-            };
+            return Prefix::of_form(Form::Range {
+                iid: front32(x.iid, len),
+                len,
+            });
         }
         let len = len - 33;
         let address = x.address.front(len);
+        Prefix::of_form(Form::Block {
+            iid: x.iid,
+            address,
+            len,
+        })
+    }
+
+    /// The prefix that this form names.
+    fn of_form(form: Form) -> Prefix
+        requires { IsForm form }
+        ensures { result ≡ path form }
+    {
+        let (iid, family, number, len) = form.parts();
         Prefix {
-            form: Form::Block {
-                iid: x.iid,
-                address,
-                len,
-            },
+            high: (number / HALF) as u64,
+            low: (number % HALF) as u64,
+            iid,
+            family,
+            len,
         }
     }
 
@@ -125,7 +145,22 @@ impl Prefix {
         ensures passes { IsTrue (is_prefix_path self) }
         ensures only { (ds : List ℕ) → IsTrue (is_prefix_path ds) → (f : AForm) × IsForm f × (path f ≡ ds) }
     {
-        self.form
+        match self.family {
+            0 => Form::Range {
+                iid: self.iid,
+                len: self.len,
+            },
+            4 => Form::Block {
+                iid: self.iid,
+                address: Locator::V4(self.low as u32),
+                len: self.len,
+            },
+            _ => Form::Block {
+                iid: self.iid,
+                address: Locator::V6(u128::from(self.high) * HALF + u128::from(self.low)),
+                len: self.len,
+            },
+        }
     }
 
     /// The number of digits, 0 to 65 or 161.
@@ -133,7 +168,7 @@ impl Prefix {
         ensures digits { result ≡ length self }
         ensures bound { result ≤ 161 }
     {
-        match self.form {
+        match self.form() {
             Form::Range { len, .. } => len,
             Form::Block { len, .. } => 33 + len,
         }
@@ -164,7 +199,7 @@ impl Prefix {
         ensures front { take (length self) (xeid_path result) ≡ self }
         ensures fits { length self ≤ length (xeid_path result) }
     {
-        match self.form {
+        match self.form() {
             Form::Range { iid, .. } => Xeid {
                 iid,
                 address: Locator::V4(0),

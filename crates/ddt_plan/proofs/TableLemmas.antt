@@ -21,7 +21,7 @@ use Rattle.ddt_path.specs.laws.Cover.{same_path}
 use Rattle.ddt_path.specs.laws.Member.{IsIn, in_get, get_in, in_contained, contained}
 use Rattle.ddt_plan.specs.declared.versions.Which.{Which}
 use Rattle.ddt_plan.specs.declared.versions.Which.TheVariants.{Earlier, Later}
-use Rattle.ddt_plan.specs.declared.tables.Pair.{Pair}
+use Rattle.ddt_plan.specs.declared.pairs_by_key.Pair.{Pair}
 use Rattle.ddt_plan.specs.declared.items.ItemChange.{ItemChange}
 use Rattle.ddt_plan.specs.Changes.{are_same_servers}
 use Rattle.ddt_plan.specs.Items.{is_same_if_any, AreTableChanges}

@@ -22,14 +22,14 @@ block_inside inside keys x = find (is_undivided keys) (parts_from (length inside
 abbrev pub block_of : List (List ℕ) → List ℕ → Option (List ℕ)
 block_of keys x = block_inside [] keys x
 
--- where the two first differ, p has the lower digit: so neither covers the other, and all that p covers stands before
+-- where the two first differ, p has the lower digit: so neither covers the other, and all that p covers sorts before
 -- all that q covers
 abbrev pub stands_before : List ℕ → List ℕ → Bool
 stands_before [] q = false
 stands_before (d ∷ p) [] = false
 stands_before (d ∷ p) (e ∷ q) = nat_lt d e || (d == e && stands_before p q)
 
--- each prefix of a list stands before all that come after it
+-- each prefix of a list sorts before all that come after it
 abbrev pub are_in_order : List (List ℕ) → Bool
 are_in_order [] = true
 are_in_order (p ∷ ps) = list_all (stands_before p) ps && are_in_order ps

@@ -63,7 +63,7 @@ abbrev pub change_of_group : Register → Register → List ℕ → Option Group
 change_of_group r s name = change_of_config (config_named r name) (config_named s name)
 
 -- The groups that change from one register to another: a name is listed with a kind if and only if the configuration of
--- its group changes so. They stand in the order of their names, none twice.
+-- its group changes so. They are in the order of their names, none twice.
 pub record AreGroupChanges (before after : Register) (changes : List GroupChange) : Type 0 where
   pub exact : (c : GroupChange) → Contains changes c ↔ (change_of_group before after c.name ≡ Some c.kind)
   pub in_order : IsStrictlySortedBy (slice_cmp nat_cmp) (map (λ c. c.name) changes)

@@ -6,7 +6,7 @@ use Rattle.std.specs.Cmp.Lexicographic.{slice_cmp}
 use Rattle.std.specs.BTreeMap.{BTreeMap, get}
 use Rattle.ddt_plan.specs.declared.versions.Which.{Which}
 use Rattle.ddt_plan.specs.declared.versions.Which.TheVariants.{Earlier, Later}
-use Rattle.ddt_plan.specs.declared.tables.Pair.{Pair}
+use Rattle.ddt_plan.specs.declared.pairs_by_key.Pair.{Pair}
 use Rattle.ddt_plan.specs.declared.items.ItemChange.{ItemChange}
 use Rattle.ddt_register.specs.declared.register.Register.{Register}
 use Rattle.ddt_plan.specs.declared.items.ServingGroup.{ServingGroup}

@@ -22,12 +22,13 @@ pub struct Block {
 }
 
 /// Gives a sink the identifiers that a prefix covers, in blocks, in the order of their digits. A block is the least
-/// specific prefix around an identifier that no zone and no site is strictly below. Where the prefix itself lies inside
-/// a larger block, it is the one block given, with the outcome of the larger one. The prefix of length 0 covers all.
-/// Each identifier lies in exactly one block, and the block's outcome is its assignment.
+/// specific prefix that covers an identifier and has no zone and no site strictly below it. If the prefix itself is
+/// inside a larger block, it is the one block given, with the outcome of the larger one. The prefix of length 0 covers
+/// all. Each identifier is in exactly one block, and the block's outcome is its assignment.
 ///
-/// Refused as Refused with the sink's first refusal, and as Memory if out of memory; either way the sink has taken a
-/// front of the blocks. A register of 65,535 rows has up to some nine million blocks; none of them is kept here.
+/// Refused as Refused with the sink's first refusal, and as Memory if out of memory; either way the sink has taken the
+/// first of the blocks, in order. A register of 65,535 rows has up to some nine million blocks; none of them is kept
+/// here.
 pub fn blocks<S: Sink<Block>>(
     alloc: Global,
     accepted: &Accepted,

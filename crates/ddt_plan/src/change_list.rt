@@ -28,12 +28,12 @@ pub struct Change {
 }
 
 /// Gives a sink all changes from one register to another at identifiers that a prefix covers, in the order of their
-/// digits. An identifier lies in a change if and only if its two assignments differ by this reading, then in exactly
-/// one, and the change has its two assignments. A change is a block of the zones and sites of both registers, so
-/// neighbours that change alike are given one by one.
+/// digits. An identifier whose two assignments differ by this reading is in exactly one change, which has its two
+/// assignments; any other identifier is in none. A change is a block of the zones and sites of both registers, so
+/// neighbours that change in the same way are given one by one.
 ///
-/// Refused as Refused with the sink's first refusal, and as Memory if out of memory; either way the sink has taken a
-/// front of the changes.
+/// Refused as Refused with the sink's first refusal, and as Memory if out of memory; either way the sink has taken the
+/// first of the changes, in order.
 pub fn changes<S: Sink<Change>>(
     alloc: Global,
     reading: Reading,

@@ -1,4 +1,4 @@
-//! Sinks that count, and keep nothing.
+//! Sinks that count the items that they are given, and don't keep them.
 
 ghost use Rattle.std.specs.Prelude.{◌≡◌, ◌+◌, MatchResult};
 ghost use Rattle.ddt_plan.specs.Counts.{CountsBlock, CountsChange, IsFull, count_of, counted};
@@ -8,7 +8,7 @@ use crate::change_list::Change;
 use crate::sink::Sink;
 use ddt_path::Outcome;
 
-/// How many outcomes there are of each kind.
+/// The number of outcomes of each kind.
 #[derive(Clone, Copy, Debug, Default, PartialEq, Eq)]
 pub struct OutcomeCounts {
     pub holes: u64,
@@ -16,7 +16,7 @@ pub struct OutcomeCounts {
     pub not_registered: u64,
 }
 
-/// How many outcomes of each kind there are before changes, and after them.
+/// The number of outcomes of each kind before changes, and after them.
 #[derive(Clone, Copy, Debug, Default, PartialEq, Eq)]
 pub struct ChangeCounts {
     pub before: OutcomeCounts,
@@ -56,7 +56,7 @@ fn one_more(count: u64) -> Result<u64, CountFull>
     count.checked_add(1).ok_or(CountFull)
 }
 
-/// Counts the outcomes of blocks. Refused where the count of a kind is full, and then all counts stay.
+/// Counts the outcomes of blocks. Refused if the count of a kind is full; no count changes then.
 impl Sink<Block> for OutcomeCounts {
     type Refusal = CountFull;
 
@@ -68,7 +68,7 @@ impl Sink<Block> for OutcomeCounts {
     }
 }
 
-/// Counts the outcomes of changes. Refused where the count of a kind is full, and then all counts stay.
+/// Counts the outcomes of changes. Refused if the count of a kind is full; no count changes then.
 impl Sink<Change> for ChangeCounts {
     type Refusal = CountFull;
 

@@ -1,4 +1,4 @@
-//! The prefixes at which two registers differ: so a walk through both ends where they are the same.
+//! The prefixes at which two registers differ. A walk through both stops at a prefix with none of these below it.
 
 ghost use Rattle.std.specs.Prelude.{◌≡◌, ◌↔◌, ℕ, List, IsTrue, IfOk, find};
 ghost use Rattle.ddt_path.specs.laws.Member.{IsIn};
@@ -12,9 +12,9 @@ use ddt_check::Accepted;
 use ddt_path::{Prefix, Prefixed};
 use std::alloc::{AllocError, Global};
 
-/// A zone or a site, as far as it matters to a block.
+/// The part of a zone or a site that decides what its block is assigned.
 pub trait Item: Prefixed + Copy {
-    /// Whether both are one value.
+    /// Whether both are the same value.
     fn is_same(&self, other: &Self) -> bool
         ensures { IsTrue result ↔ (self.now ≡ other.now) };
 }
@@ -39,7 +39,7 @@ impl Item for SiteState {
     }
 }
 
-/// Whether both are there and one value, or neither is there.
+/// Whether both are None, or both are Some with the same value.
 pub fn are_same<T: Item>(before: Option<T>, after: Option<T>) -> bool
     ensures { IsTrue result ↔ (before ≡ after) }
 {
@@ -50,8 +50,8 @@ pub fn are_same<T: Item>(before: Option<T>, after: Option<T>) -> bool
     }
 }
 
-/// The prefixes of the zones and sites that one of two registers has and the other has not, or has with other servers
-/// or in another state, in order. A prefix may be there twice.
+/// The prefixes, in order, of the zones and sites that only one of two registers has, or that the other has with other
+/// servers or in another state. A prefix may occur twice.
 pub fn differences(
     alloc: Global,
     before: &Accepted,
@@ -73,7 +73,7 @@ pub fn differences(
     Ok(all)
 }
 
-/// These prefixes, and that of each item that is not among the others.
+/// The known prefixes, and the prefix of each item that isn't among the others.
 fn with_missing<T: Item>(
     known: Vec<Prefix>,
     items: &[T],

@@ -1,11 +1,11 @@
-//! The groups whose configuration changes, in meaning and not in the order of rows.
+//! The groups whose configuration changes in more than the order of rows.
 
 ghost use Rattle.std.specs.Prelude.{◌≡◌, IfOk};
 ghost use Rattle.std.specs.Option.{option_map};
 ghost use Rattle.ddt_plan.specs.Groups.{AreGroupChanges};
 ghost use Rattle.ddt_plan.specs.Versions.{kind_of as kind_of_versions};
 
-use crate::configs::is_same_config;
+use crate::config_comparison::is_same_config;
 use crate::versions::{Versions, versions_by_name};
 use ddt_check::Accepted;
 use ddt_path::Name;
@@ -18,7 +18,7 @@ pub enum GroupChangeKind {
     Added,
     /// Only the earlier register has the group.
     Removed,
-    /// Both have it, and its configurations aren't alike.
+    /// Both have it, and its configurations aren't the same.
     Changed,
 }
 
@@ -31,9 +31,9 @@ pub struct GroupChange {
 }
 
 /// The groups whose servers need another configuration in a later register than in an earlier one, in the order of
-/// their names, none twice. A configuration is that of `ddt_compile`. Two are alike where they have the same kind, the
-/// same locators in the same order, and the same authorities, each with the same children or the same sites (RFC 8111,
-/// section 4). The order of authorities, of children and of sites, which is that of the rows, is no change.
+/// their names, none twice. A configuration is what `ddt_compile` makes. Two are the same if they have the same kind,
+/// the same locators in the same order, and the same authorities, each with the same children or the same sites (RFC
+/// 8111, section 4). The order of authorities, of children and of sites, which is that of the rows, doesn't matter.
 ///
 /// Fails only if out of memory.
 pub fn group_changes(

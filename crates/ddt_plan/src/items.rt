@@ -5,7 +5,7 @@ ghost use Rattle.ddt_plan.specs.Changes.{are_same_servers};
 ghost use Rattle.ddt_plan.specs.Items.{AreItemChanges, AreTableChanges, serving_group_at, etrs_at, group_servers_at, is_same_serving_group, are_same_group_servers};
 ghost use Rattle.ddt_plan.specs.Tables.{AreServingGroups, HasPutRows};
 
-use crate::tables::{Pair, changes_of, put};
+use crate::pairs_by_key::{Pair, changes_of, put};
 use crate::versions::Which;
 use ddt_check::Accepted;
 use ddt_path::{LocatorSet, Name, Prefix, Role};
@@ -35,9 +35,9 @@ pub struct GroupServers {
 pub struct ItemChange<K, V> {
     /// The prefix of the zone or the site, or the name of the group.
     pub key: K,
-    /// What the earlier register has under the key; none where the item is new.
+    /// What the earlier register has under the key; None if the item is new.
     pub before: Option<V>,
-    /// What the later register has under the key; none where the item is gone.
+    /// What the later register has under the key; None if the item is gone.
     pub after: Option<V>,
 }
 
@@ -54,8 +54,8 @@ pub struct ItemChanges {
 
 /// The zones, the sites and the groups that differ between two registers, each of them once. One differs if only one of
 /// the registers has its prefix or its name, or if both have it with another kind, another group, or other locators or
-/// ETRs. The order of rows is no difference, but that of the locators or ETRs in a row is. A zone whose group keeps its
-/// name and its kind does not differ. Where that group's locators differ, the group is in the list of groups.
+/// ETRs. The order of rows is no difference, but the order of the locators or ETRs in a row is. A zone whose group has
+/// the same name and kind in both doesn't differ; if the locators of that group differ, it is in the list of groups.
 ///
 /// Takes n log n steps for n rows. Fails only if out of memory.
 pub fn item_changes(
@@ -72,8 +72,8 @@ pub fn item_changes(
     })
 }
 
-/// The group that serves each zone in two registers, by the zone's EID-prefix. A prefix that neither register has as a
-/// zone is no key. Fails only if out of memory.
+/// The groups that serve each zone in two registers, by the zone's EID-prefix. A prefix that is no zone of either
+/// register is no key. Fails only if out of memory.
 pub fn serving_groups(
     alloc: Global,
     before: &Accepted,

@@ -1,33 +1,33 @@
-//! What a register says of all identifiers, block by block, and what a change of the register changes (RFC 8111,
+//! What a register assigns to all identifiers, block by block, and what a change of the register changes (RFC 8111,
 //! section 7.3: what following referrals from the root has to end in).
 //!
-//! Nothing is kept of what is given: a walk down the digits hands each block or change to a sink as it finds it. A walk
-//! of changes ends where both registers have the same zones and sites. `differences` lists where they do not, and
-//! `jump` spares the digits between. Which groups of servers need another configuration is told by the configurations
-//! themselves: `ddt_compile` makes those of both registers, and the types of `ddt_config` are compared, whatever the
-//! order of rows. Which rows differ is read off maps of both registers by the rows' keys.
+//! No list of blocks or changes is kept: a walk down the digits gives each block or change to a sink as it finds it. A
+//! walk of changes ends where both registers have the same zones and sites. `differences` lists the prefixes at which
+//! they differ, and `skip_unchanged` skips the digits between these. `groups` compares the configurations that
+//! `ddt_compile` makes of both registers, whatever the order of their rows. `items` compares the rows of both registers
+//! by their keys.
 //!
-//! In reading order: `sink`, `block_list`, `change_list`, `outcomes`, `counts`; `walk`, `jump`, `differences`, `sides`,
-//! `halves`, `servers` below them; `groups`, with `versions` and `configs` below it; `items`, with `tables` below it;
-//! and `laws`.
+//! In reading order: `sink`, `block_list`, `change_list`, `outcomes`, `counts`; `walk`, with `skip_unchanged`,
+//! `differences`, `sides`, `prefix_halves` and `servers` below it; `groups`, with `versions` and `config_comparison`
+//! below it; `items`, with `pairs_by_key` below it; and `laws`.
 //! Tests: ddt_register_tests/plan.
 #![tactic(auto)]
 
 mod block_list;
 mod change_list;
-mod configs;
+mod config_comparison;
 mod counts;
 mod differences;
 mod groups;
-mod halves;
 mod items;
-mod jump;
 mod laws;
 mod outcomes;
+mod pairs_by_key;
+mod prefix_halves;
 mod servers;
 mod sides;
 mod sink;
-mod tables;
+mod skip_unchanged;
 mod versions;
 mod walk;
 
@@ -40,6 +40,6 @@ pub use items::{
 };
 pub use laws::{a_block_is_assigned_alike, a_negative_is_its_block, exactly_the_same_is_equal};
 pub use outcomes::{Reading, is_same_outcome};
+pub use pairs_by_key::Pair;
 pub use sink::{PlanFault, Sink};
-pub use tables::Pair;
 pub use versions::{Versions, versions_by_name};

@@ -1,4 +1,4 @@
-//! When two outcomes are one.
+//! When two outcomes are the same.
 
 ghost use Rattle.std.specs.Prelude.{◌≡◌};
 ghost use Rattle.ddt_path.specs.Covers.{is_same_path};
@@ -16,7 +16,7 @@ pub enum Reading {
     Service,
 }
 
-/// Whether two outcomes are one.
+/// Whether two outcomes are the same by this reading.
 pub fn is_same_outcome(reading: Reading, a: &Outcome, b: &Outcome) -> bool
     ensures { result ≡ is_same_outcome_of reading a.now b.now }
 {

@@ -1,5 +1,5 @@
-//! What one register says at a prefix: what all of it is assigned, or the zone and the site around it and what is
-//! strictly below it. In the order of prefixes all that is strictly below one stands together, so nothing is copied.
+//! What one register has at a prefix: the outcome of the whole prefix, or the zone and the site around it and the items
+//! strictly below it. These are consecutive in the order of prefixes, so they are slices and nothing is copied.
 
 ghost use Rattle.std.specs.Prelude.{◌≡◌, ◌==◌, ◌&&◌, ℕ, ◌<◌, false, true, List, length, find, IfOk};
 ghost use Rattle.std.specs.List.{filter};
@@ -9,7 +9,7 @@ ghost use Rattle.ddt_plan.specs.Blocks.{keys_of, is_undivided, half as half_of};
 ghost use Rattle.ddt_plan.specs.Differing.{AreSides, IsNext};
 ghost use Rattle.ddt_plan.specs.Fast.{AreInOrder, AreBelow, AreItemsOf, IsDivision, IsSide, delegations_of, delegation_at, states_of, state_at, outcome_from, outcome_in as outcome_in_of, outcome_of_site as outcome_of_site_of};
 
-use crate::halves::half;
+use crate::prefix_halves::half;
 use crate::servers::servers_of;
 use ddt_check::{Accepted, assign};
 use ddt_compile::locators_by_name;
@@ -20,12 +20,12 @@ use std::alloc::{AllocError, Global};
 #[derive(Clone, Copy, Debug, PartialEq, Eq)]
 pub struct Delegation {
     pub prefix: Prefix,
-    /// What these servers are.
+    /// Whether they are DDT nodes or Map-Servers.
     pub role: Role,
     pub servers: LocatorSet,
 }
 
-/// A site, as far as it matters to a block.
+/// The part of a site that decides what its block is assigned.
 #[derive(Clone, Copy, Debug, PartialEq, Eq)]
 pub struct SiteState {
     pub prefix: Prefix,
@@ -40,19 +40,19 @@ pub struct SortedItems {
     pub sites: Vec<SiteState>,
 }
 
-/// What one register says at a prefix.
+/// What one register has at a prefix.
 #[derive(Clone, Copy)]
 pub enum Side<'a> {
-    /// All of it is assigned this.
+    /// All identifiers in it are assigned this.
     Settled(Outcome),
-    /// Some zone or site is strictly below it.
+    /// A zone or a site is strictly below it.
     Divided(Division<'a>),
 }
 
-/// What is around a prefix and what is strictly below it.
+/// The zone and the site around a prefix, and the zones and the sites strictly below it.
 #[derive(Clone, Copy)]
 pub struct Division<'a> {
-    /// Its zone.
+    /// The longest zone that covers it.
     pub zone: Option<Delegation>,
     /// The longest site that covers it.
     pub site: Option<SiteState>,
@@ -60,7 +60,7 @@ pub struct Division<'a> {
     pub sites: &'a [SiteState],
 }
 
-/// What two registers say at a prefix.
+/// What two registers have at a prefix.
 #[derive(Clone, Copy)]
 pub struct Sides<'a> {
     pub before: Side<'a>,
@@ -96,7 +96,7 @@ pub fn sort_items(alloc: Global, accepted: &Accepted) -> Result<SortedItems, All
     Ok(SortedItems { zones, sites })
 }
 
-/// What an accepted register says at a prefix.
+/// What an accepted register has at a prefix.
 pub fn side_at<'a>(accepted: &Accepted, items: &'a SortedItems, at: Prefix) -> Side<'a>
     requires { AreItemsOf accepted.now items.now }
     ensures { IsSide accepted.now at result }
@@ -117,7 +117,7 @@ pub fn side_at<'a>(accepted: &Accepted, items: &'a SortedItems, at: Prefix) -> S
     })
 }
 
-/// What two registers say at the two halves of a prefix of which one says that it is divided.
+/// What two registers have at the two halves of a prefix.
 pub fn sides_of_both_below<'a>(
     before: &Accepted,
     after: &Accepted,
@@ -146,7 +146,7 @@ pub fn sides_of_both_below<'a>(
     (low, high)
 }
 
-/// What a register says at the two halves of a prefix.
+/// What a register has at the two halves of a prefix.
 fn sides_at_halves<'a>(accepted: &Accepted, whole: Prefix, side: &Side<'a>) -> (Side<'a>, Side<'a>)
     requires side { IsSide accepted.now whole side.now }
     ensures { IsSide accepted.now (half_of false whole) result.0 × IsSide accepted.now (half_of true whole) result.1 }
@@ -157,7 +157,7 @@ fn sides_at_halves<'a>(accepted: &Accepted, whole: Prefix, side: &Side<'a>) -> (
     }
 }
 
-/// The same where the prefix is divided.
+/// What a register has at the two halves of a prefix that is divided.
 pub fn sides_below<'a>(
     accepted: &Accepted,
     whole: Prefix,
@@ -171,7 +171,7 @@ pub fn sides_below<'a>(
     (low, high)
 }
 
-/// What it says at one half.
+/// What a register has at one half of a prefix that is divided.
 fn side_below<'a>(
     accepted: &Accepted,
     whole: Prefix,
@@ -184,7 +184,7 @@ fn side_below<'a>(
     side_inside(accepted, division, half(whole, upper))
 }
 
-/// What it says at a prefix strictly below, where no zone and no site is between the two.
+/// What a register has at a prefix strictly below one that is divided, with no zone and no site between the two.
 pub fn side_inside<'a>(accepted: &Accepted, division: &Division<'a>, at: Prefix) -> Side<'a>
     requires { (q : List ℕ) × IsDivision accepted.now q division.now × IsNext accepted.now q at }
     ensures { IsSide accepted.now at result }
@@ -194,11 +194,12 @@ pub fn side_inside<'a>(accepted: &Accepted, division: &Division<'a>, at: Prefix)
     let site = item_at(division.sites, at, division.site);
     let zones = items_below(division.zones, at);
     let sites = items_below(division.sites, at);
-    settle(accepted, at, zone, site, zones, sites)
+    side_from_items(accepted, at, zone, site, zones, sites)
 }
 
-/// What it says at a prefix whose shorter fronts are all divided.
-fn settle<'a>(
+/// What a register has at a prefix, by the zone and the site around it and the items strictly below it. All shorter
+/// prefixes that cover it are divided.
+fn side_from_items<'a>(
     accepted: &Accepted,
     at: Prefix,
     zone: Option<Delegation>,
@@ -308,7 +309,7 @@ fn item_at<T: Prefixed + Copy>(items: &[T], at: Prefix, above: Option<T>) -> Opt
     }
 }
 
-/// The item of exactly this prefix, if there is one, of items in the order of their prefixes.
+/// The item of exactly this prefix, if there is one. The items are in the order of their prefixes.
 pub fn item_of_prefix<T: Prefixed + Copy>(items: &[T], at: Prefix) -> Option<T>
     requires { AreInOrder T.path items.now }
     ensures { result ≡ find (λ item. is_same_path (T.path item) at) items.now }
@@ -325,7 +326,7 @@ pub fn item_of_prefix<T: Prefixed + Copy>(items: &[T], at: Prefix) -> Option<T>
     }
 }
 
-/// The items strictly below a prefix: of those behind it in order, the ones that it covers come first.
+/// The items strictly below a prefix: of those after it in order, the ones that it covers come first.
 pub fn items_below<T: Prefixed>(items: &[T], at: Prefix) -> &[T]
     requires { AreInOrder T.path items.now }
     ensures { result.now ≡ filter (λ item. is_strictly_below (T.path item) at) items.now }

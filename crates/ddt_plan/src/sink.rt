@@ -1,18 +1,18 @@
-//! Where blocks and changes go: a sink is given one item after the other, and may refuse one.
+//! Sinks, which take blocks and changes one after the other, and may refuse one.
 
 ghost use Rattle.std.specs.Prelude.{◌≡◌, ◌++◌, ◌∷◌, [], MatchResult};
 ghost use Rattle.ddt_plan.specs.Sinks.{HasGiven};
 
 use std::alloc::AllocError;
 
-/// What takes items as they are found.
+/// Takes items as they are found.
 pub trait Sink<T> {
     ghost use Rattle.std.specs.Prelude.{Result};
 
     /// Why it refuses an item.
     type Refusal: Drop;
 
-    /// What a call may do: the sink before, the item, the answer, and the sink after.
+    /// What a call may do: the sink before, the item, the result, and the sink after.
     ghost takes: { Self → T → Result (Unit {0}) Self.Refusal → Self → Type 0 };
 
     /// Takes the next item, or refuses it. After a refusal it is given no other.
@@ -20,7 +20,7 @@ pub trait Sink<T> {
         ensures { takes self.old item result self.new };
 }
 
-/// A list takes each item at its end. Refused only if out of memory, and then it has the items from before.
+/// Appends each item to the list. Refused only if out of memory; the list doesn't change then.
 impl<T: Drop> Sink<T> for Vec<T> {
     type Refusal = AllocError;
 
@@ -33,16 +33,16 @@ impl<T: Drop> Sink<T> for Vec<T> {
     }
 }
 
-/// Why not all was given.
+/// Why the sink wasn't given all items.
 #[derive(Debug, Drop, PartialEq, Eq)]
 pub enum PlanFault<R> {
-    /// Out of memory for what is still to be walked. The sink has taken a front of the items.
+    /// Out of memory. The sink has taken the first of the items, in order.
     Memory,
     /// The sink refused an item, and has taken all before that one.
     Refused(R),
 }
 
-/// Gives an item to a sink.
+/// Gives one item to a sink.
 pub fn give<T, S: Sink<T>>(sink: &mut S, item: T) -> Result<(), PlanFault<S::Refusal>>
     ensures { HasGiven S.takes sink.old (item ∷ []) result sink.new }
 {

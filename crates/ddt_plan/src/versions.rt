@@ -28,8 +28,8 @@ pub enum Which {
     Later,
 }
 
-/// The configurations of each group of two registers, by its name: those of `ddt_compile`. A name of no group is no key.
-/// Fails only if out of memory.
+/// The configurations that `ddt_compile` makes of each group of two registers, by its name. A name of no group is no
+/// key. Fails only if out of memory.
 pub fn versions_by_name(
     alloc: Global,
     before: &Accepted,
@@ -41,7 +41,7 @@ pub fn versions_by_name(
     put_all(alloc, earlier, Which::Later, after)
 }
 
-/// Puts the configuration of each group to what is there by its name.
+/// Adds the configuration of each group of a register under its name.
 fn put_all(
     alloc: Global,
     versions: BTreeMap<Name, Versions>,
@@ -59,7 +59,7 @@ fn put_all(
     Ok(all)
 }
 
-/// A configuration beside what is there; of two of one name in a register, the first counts.
+/// The known configurations of a group with another one. Of two with the same name in a register, the first counts.
 fn joined(which: Which, known: Option<Versions>, config: ServerConfig) -> Versions
     ensures { result ≡ joined_of which known config }
 {

@@ -1,4 +1,4 @@
-//! A walk down the digits, through what each register says at each prefix.
+//! A walk down the digits of prefixes, from one half to the next, that gives a sink the blocks or the changes.
 
 ghost use Rattle.std.specs.Prelude.{◌≡◌, ◌-◌, ◌++◌, ◌∷◌, [], map, length, IsTrue};
 ghost use Rattle.std.specs.List.{filter};
@@ -11,11 +11,11 @@ ghost use Rattle.ddt_plan.specs.Sinks.{HasGiven};
 use crate::block_list::Block;
 use crate::change_list::Change;
 use crate::differences::are_same;
-use crate::halves::half;
-use crate::jump::jump;
 use crate::outcomes::{Reading, is_same_outcome};
+use crate::prefix_halves::half;
 use crate::sides::{Side, Sides, sides_below, sides_of_both_below};
 use crate::sink::{PlanFault, Sink, give};
+use crate::skip_unchanged::skip_unchanged;
 use ddt_check::Accepted;
 use ddt_path::{Outcome, Prefix};
 
@@ -65,7 +65,7 @@ pub fn walk_both<S: Sink<Change>>(
             if nothing_changes(before, after, whole, sides) {
                 return Ok(());
             }
-            if let Some((inner, within)) = jump(before, after, whole, sides) {
+            if let Some((inner, within)) = skip_unchanged(before, after, whole, sides) {
                 return walk_both(reading, before, after, inner, &within, sink);
             }
             let lower = half(whole, false);

@@ -8,9 +8,9 @@ use Rattle.ddt_plan.specs.declared.change_list.Change.{Change}
 use Rattle.ddt_plan.specs.declared.counts.ChangeCounts.{ChangeCounts}
 use Rattle.ddt_plan.specs.declared.groups.GroupChange.{GroupChange}
 use Rattle.ddt_commands.specs.Register.{HasBytes, Spell}
-use Rattle.ddt_plan_commands.specs.declared.words.BlocksAsked.{BlocksAsked}
-use Rattle.ddt_plan_commands.specs.declared.words.DiffAsked.{DiffAsked}
-use Rattle.ddt_plan_commands.specs.declared.words.Form.{Form}
+use Rattle.ddt_plan_commands.specs.declared.arguments.BlocksAsked.{BlocksAsked}
+use Rattle.ddt_plan_commands.specs.declared.arguments.DiffAsked.{DiffAsked}
+use Rattle.ddt_plan_commands.specs.declared.arguments.Form.{Form}
 use Rattle.ddt_plan_commands.specs.Answers.{IsBlocksText, IsBlocksAnswer, IsDiffText, IsDiffAnswer}
 use Rattle.ddt_plan_commands.specs.Counted.{has_counted, no_changes, with_changes}
 use Rattle.ddt_plan_commands.specs.Written.{differs, has_some, written_change_counts}

@@ -5,7 +5,7 @@ use Rattle.std.specs.List.{list_any}
 use Rattle.ddt_plan.specs.declared.change_list.Change.{Change}
 use Rattle.ddt_plan.specs.Sinks.{HasTaken}
 use Rattle.ddt_plan_commands.specs.declared.effects.Effects.{Effects}
-use Rattle.ddt_plan_commands.specs.declared.extents.Extent.{Extent}
+use Rattle.ddt_plan_commands.specs.declared.extent.Extent.{Extent}
 use Rattle.ddt_plan_commands.specs.Effects.{CountsEffect, becomes_hole, capped, changes_servers, effects_of, extent_of, extent_with, ipv4_in, ipv6_in, loses_registration}
 use Rattle.ddt_plan_commands.specs.Written.{has_some, was_negative}
 

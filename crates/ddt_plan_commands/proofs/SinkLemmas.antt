@@ -13,7 +13,7 @@ use Rattle.ddt_plan.specs.declared.block_list.Block.{Block}
 use Rattle.ddt_plan.specs.declared.counts.OutcomeCounts.{OutcomeCounts}
 use Rattle.ddt_plan.specs.Counts.{CountsBlock, CountsChange, counted, changes_counted}
 use Rattle.ddt_plan.specs.Sinks.{HasTaken}
-use Rattle.ddt_plan_commands.specs.declared.words.Form.{Form}
+use Rattle.ddt_plan_commands.specs.declared.arguments.Form.{Form}
 use Rattle.ddt_plan_commands.specs.declared.block_lines.LineFault.{LineFault}
 use Rattle.ddt_plan_commands.specs.declared.block_lines.BlockLines.{BlockLines}
 use Rattle.ddt_plan_commands.specs.Counted.{has_counted, with_blocks, with_changes}

@@ -8,7 +8,7 @@ use Rattle.std.proofs.lemmas.List.Concat.{flat_map-cons}
 use Rattle.std.proofs.lemmas.List.{append-nil, take-append-le, take_min}
 use Rattle.std.proofs.Math.Seq.{take-length, take-append_seam, take-append-add}
 use Rattle.ddt_lines.specs.Printing.{AppendsFront}
-use Rattle.ddt_commands.specs.Running.{HasText}
+use Rattle.ddt_commands.specs.Ends.{HasText}
 use Rattle.ddt_plan_commands.specs.Answers.{HasFront}
 use Rattle.ddt_plan.specs.declared.sink.PlanFault.{PlanFault}
 use Rattle.ddt_plan.specs.declared.sink.PlanFault.TheVariants.{Memory, Refused}

@@ -12,11 +12,11 @@ use Rattle.ddt_plan.specs.Changes.{AreBlocks, AreChanges}
 use Rattle.ddt_plan.specs.Groups.{AreGroupChanges}
 use Rattle.ddt_lines.specs.Printing.{AppendsFront}
 use Rattle.ddt_commands.specs.Over.{OfItsRegister}
-use Rattle.ddt_plan_commands.specs.declared.words.Form.{Form}
-use Rattle.ddt_plan_commands.specs.declared.words.BlocksAsked.{BlocksAsked}
-use Rattle.ddt_plan_commands.specs.declared.words.DiffAsked.{DiffAsked}
-use Rattle.ddt_plan_commands.specs.declared.words.Told.{Told}
-use Rattle.ddt_plan_commands.specs.declared.words.Told.TheVariants.{Changes, Counts, Summary}
+use Rattle.ddt_plan_commands.specs.declared.arguments.Form.{Form}
+use Rattle.ddt_plan_commands.specs.declared.arguments.BlocksAsked.{BlocksAsked}
+use Rattle.ddt_plan_commands.specs.declared.arguments.DiffAsked.{DiffAsked}
+use Rattle.ddt_plan_commands.specs.declared.arguments.DiffOutput.{DiffOutput}
+use Rattle.ddt_plan_commands.specs.declared.arguments.DiffOutput.TheVariants.{Changes, Counts, Summary}
 use Rattle.ddt_plan_commands.specs.declared.review.Review.{Review}
 use Rattle.ddt_plan_commands.specs.Review.{IsReview, is_different}
 use Rattle.ddt_plan_commands.specs.Summary.{written_summary}
@@ -75,7 +75,7 @@ IsChangeCountsText reading form before after differs text =
     × (text ≡ written_change_counts form (with_changes no_changes all) (length groups)))
 
 -- what is asked of them, and whether anything differs
-abbrev pub IsTextOfChanges : Told → Reading → Form → Register → Register → Bool → List ℕ → Type 0
+abbrev pub IsTextOfChanges : DiffOutput → Reading → Form → Register → Register → Bool → List ℕ → Type 0
 IsTextOfChanges Counts = IsChangeCountsText
 IsTextOfChanges Summary = IsSummaryText
 IsTextOfChanges Changes = IsChangesText
@@ -83,7 +83,7 @@ IsTextOfChanges Changes = IsChangesText
 -- The text that `diff` prints of two registers, and whether anything differs: counts under `--count`, the summary under
 -- `--summary`, otherwise all that differs.
 abbrev pub IsDiffText : DiffAsked → Register → Register → Bool → List ℕ → Type 0
-IsDiffText asked = IsTextOfChanges asked.told asked.reading asked.form
+IsDiffText asked = IsTextOfChanges asked.output asked.reading asked.form
 
 -- The answer of `diff`: the paths of both registers gave sources, and this is the text of the registers there.
 abbrev pub IsDiffAnswer : {F : Type 0} → (List ℕ → Option F → Type 0) → (F → Option (List ℕ)) → DiffAsked → Bool

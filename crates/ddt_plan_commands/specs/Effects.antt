@@ -8,14 +8,14 @@ use Rattle.ddt_plan.specs.declared.change_list.Change.{Change}
 use Rattle.ddt_plan.specs.Changes.{are_same_servers}
 use Rattle.ddt_plan_commands.specs.declared.block_lines.LineFault.{LineFault}
 use Rattle.ddt_plan_commands.specs.declared.effects.Effects.{Effects}
-use Rattle.ddt_plan_commands.specs.declared.extents.Extent.{Extent}
+use Rattle.ddt_plan_commands.specs.declared.extent.Extent.{Extent}
 use Rattle.ddt_plan_commands.specs.Written.{has_some, is_hole, was_negative}
 
 -- a number, and 2^128 - 1 for each above it
 abbrev pub capped : ℕ → ℕ
 capped n = min n (2 ^ 128 - 1)
 
--- How many IPv4 addresses n digits leave: in a range of instances, of which each has 2^32, or behind the family's digit.
+-- How many IPv4 addresses n digits leave: in a range of instances, of which each has 2^32, or after the family's digit.
 abbrev pub ipv4_left : Option ℕ → ℕ → ℕ
 ipv4_left None n = 2 ^ (64 - n)
 ipv4_left (Some family) n = if family == 4 then 2 ^ (65 - n) else 0

@@ -9,8 +9,8 @@ use Rattle.ddt_plan.specs.declared.items.ServingGroup.{ServingGroup}
 use Rattle.ddt_plan.specs.declared.items.GroupServers.{GroupServers}
 use Rattle.ddt_plan.specs.declared.items.ItemChange.{ItemChange}
 use Rattle.ddt_plan.specs.declared.items.ItemChanges.{ItemChanges}
-use Rattle.ddt_plan_commands.specs.declared.words.Form.{Form}
-use Rattle.ddt_plan_commands.specs.declared.words.Form.TheVariants.{Text, Json}
+use Rattle.ddt_plan_commands.specs.declared.arguments.Form.{Form}
+use Rattle.ddt_plan_commands.specs.declared.arguments.Form.TheVariants.{Text, Json}
 use Rattle.ddt_plan_commands.specs.declared.review.Review.{Review}
 use Rattle.ddt_plan_commands.specs.Items.{site_text, zone_text, group_lines}
 use Rattle.ddt_plan_commands.specs.ItemObjects.{site_data, zone_data, group_servers_data}

@@ -1,7 +1,7 @@
 -- The referrals that caches hold. A Map-Resolver keeps a Map-Referral for its TTL (RFC 8111, section 6): NODE-REFERRAL
--- and MS-REFERRAL, which name the servers of a zone, for a day; MS-ACK, which names the Map-Servers of a site's zone, for
--- as long; DELEGATION-HOLE for 15 minutes and MS-NOT-REGISTERED for one. None of them names an ETR. Referrals to the
--- root are in no cache: its locators are configured in each Map-Resolver.
+-- and MS-REFERRAL, which name the servers of a zone, for a day; MS-ACK, which names the Map-Servers of a site's zone,
+-- for as long; DELEGATION-HOLE for 15 minutes and MS-NOT-REGISTERED for one. None of them names an ETR. Referrals to
+-- the root are in no cache: its locators are configured in each Map-Resolver.
 use Rattle.std.specs.Prelude.{ℕ, ◌≡◌, ◌==◌, Bool, true, false, ◌&&◌, not, List, length, find, Option, None, Some}
 use Rattle.std.specs.List.{list_any}
 use Rattle.std.specs.Option.{option_map}

@@ -11,20 +11,20 @@ use Rattle.ddt_commands.specs.Register.{IsWhyNoRegister}
 use Rattle.ddt_commands.specs.Refusal.{refusal_text}
 use Rattle.ddt_commands.specs.declared.refusal.Refusal.{Refusal}
 use Rattle.ddt_commands.specs.declared.refusal.Refusal.TheVariants as ddt
-use Rattle.ddt_commands.specs.declared.refusal.register.RegisterRefusal.TheVariants as register
+use Rattle.ddt_commands.specs.declared.refusal.register_file.RegisterRefusal.TheVariants as register
 use Rattle.ddt_plan.specs.declared.counts.CountFull.{CountFull as TooManyToCount}
 use Rattle.ddt_plan.specs.declared.sink.PlanFault.{PlanFault}
 use Rattle.ddt_plan.specs.declared.sink.PlanFault.TheVariants as plan
 use Rattle.ddt_plan_commands.specs.declared.block_lines.LineFault.{LineFault}
 use Rattle.ddt_plan_commands.specs.declared.block_lines.LineFault.TheVariants as line
-use Rattle.ddt_plan_commands.specs.declared.words.BlocksAsked.{BlocksAsked}
-use Rattle.ddt_plan_commands.specs.declared.words.DiffAsked.{DiffAsked}
-use Rattle.ddt_plan_commands.specs.declared.words.Told.{Told}
-use Rattle.ddt_plan_commands.specs.declared.words.Told.TheVariants.{Changes, Counts, Summary}
+use Rattle.ddt_plan_commands.specs.declared.arguments.BlocksAsked.{BlocksAsked}
+use Rattle.ddt_plan_commands.specs.declared.arguments.DiffAsked.{DiffAsked}
+use Rattle.ddt_plan_commands.specs.declared.arguments.DiffOutput.{DiffOutput}
+use Rattle.ddt_plan_commands.specs.declared.arguments.DiffOutput.TheVariants.{Changes, Counts, Summary}
 use Rattle.ddt_plan_commands.specs.declared.refusal.PlanRefusal.{PlanRefusal}
 use Rattle.ddt_plan_commands.specs.declared.refusal.PlanRefusal.TheVariants.{BadPrefix, NoRegister, CountFull, OutOfMemory}
-use Rattle.ddt_plan_commands.specs.declared.stop.Stop.{Stop}
-use Rattle.ddt_plan_commands.specs.declared.stop.Stop.TheVariants.{Refused, Unprinted}
+use Rattle.ddt_plan_commands.specs.declared.command_error.CommandError.{CommandError}
+use Rattle.ddt_plan_commands.specs.declared.command_error.CommandError.TheVariants.{Refused, Unprinted}
 
 -- the refusal of a word that is no prefix
 abbrev pub bad_prefix : Result (List ℕ) TextFault → Option PlanRefusal
@@ -40,7 +40,7 @@ IsWhyUnopened remaining source path CountFull = ⊥
 IsWhyUnopened remaining source path OutOfMemory = ⊥
 
 -- why an answer stops once its registers are read; a count may be full only where counts are asked for
-abbrev pub IsWhyUnwritten : Bool → Stop → Type 0
+abbrev pub IsWhyUnwritten : Bool → CommandError → Type 0
 IsWhyUnwritten counted (Refused (BadPrefix fault)) = ⊥
 IsWhyUnwritten counted (Refused (NoRegister name why)) = ⊥
 IsWhyUnwritten counted (Refused CountFull) = counted ≡ true
@@ -48,13 +48,13 @@ IsWhyUnwritten counted (Refused OutOfMemory) = ⊤
 IsWhyUnwritten counted Unprinted = ⊤
 
 -- how a command stops where a sink didn't take all
-abbrev pub stop_of_lines : PlanFault LineFault → Stop
+abbrev pub stop_of_lines : PlanFault LineFault → CommandError
 stop_of_lines plan.Memory = Refused OutOfMemory
 stop_of_lines (plan.Refused line.Memory) = Refused OutOfMemory
 stop_of_lines (plan.Refused line.Unprinted) = Unprinted
 
 -- How a command stops where not all was counted: it refuses, as memory ran out or as a count would pass 2^64 - 1.
-abbrev pub stop_of_counts : PlanFault TooManyToCount → Stop
+abbrev pub stop_of_counts : PlanFault TooManyToCount → CommandError
 stop_of_counts plan.Memory = Refused OutOfMemory
 stop_of_counts (plan.Refused full) = Refused CountFull
 
@@ -68,7 +68,7 @@ IsWhyNoBlocks opens remaining asked why =
     ⊎ OfItsRegister remaining source (λ r. IsWhyUnwritten asked.counted (Refused why))))
 
 -- the numbers of changes of each kind are asked for
-abbrev pub is_counted : Told → Bool
+abbrev pub is_counted : DiffOutput → Bool
 is_counted Counts = true
 is_counted Summary = false
 is_counted Changes = false
@@ -81,7 +81,7 @@ IsWhyNoDiff opens remaining asked why =
     × (IsWhyUnopened remaining old asked.before.now why ⊎ OfItsRegister remaining old (λ before.
     (new : Option _) × opens asked.after.now new
     × (IsWhyUnopened remaining new asked.after.now why
-    ⊎ OfItsRegister remaining new (λ after. IsWhyUnwritten (is_counted asked.told) (Refused why)))))
+    ⊎ OfItsRegister remaining new (λ after. IsWhyUnwritten (is_counted asked.output) (Refused why)))))
 
 -- the text where this path gives no accepted register: the path and why, or that memory ran out; None where a fault is
 -- shown, whose text is the fault's own

@@ -9,7 +9,7 @@ use Rattle.ddt_plan.specs.Changes.{AreChanges}
 use Rattle.ddt_plan.specs.Groups.{AreGroupChanges}
 use Rattle.ddt_plan.specs.Items.{AreItemChanges}
 use Rattle.ddt_plan_commands.specs.declared.review.Review.{Review}
-use Rattle.ddt_plan_commands.specs.declared.tally.Tally.{Tally}
+use Rattle.ddt_plan_commands.specs.declared.row_tally.RowTally.{RowTally}
 use Rattle.ddt_plan_commands.specs.Effects.{effects_of}
 use Rattle.ddt_plan_commands.specs.Referrals.{has_outdated}
 use Rattle.ddt_plan_commands.specs.Written.{has_some}
@@ -35,7 +35,7 @@ abbrev pub how_many : {K V : Type 0} → (Option V → Option V → Bool) → Li
 how_many is_such changes = count_by (λ c. is_such c.before c.after) changes
 
 -- How many of some changes are of rows that are gone, that are new, and that differ.
-abbrev pub tally_of : {K V : Type 0} → List (ItemChange K V) → Tally
+abbrev pub tally_of : {K V : Type 0} → List (ItemChange K V) → RowTally
 tally_of changes = record {
   lost = how_many is_lost changes;
   gained = how_many is_gained changes;

@@ -4,12 +4,12 @@ use Rattle.serde_json.specs.Data.{Data, number, unsigned, string, object, member
 use Rattle.serde_json.specs.Written.{compact_text}
 use Rattle.ddt_lines.specs.Lines.{ended}
 use Rattle.ddt_plan.specs.declared.items.ItemChanges.{ItemChanges}
-use Rattle.ddt_plan_commands.specs.declared.words.Form.{Form}
-use Rattle.ddt_plan_commands.specs.declared.words.Form.TheVariants.{Text, Json}
+use Rattle.ddt_plan_commands.specs.declared.arguments.Form.{Form}
+use Rattle.ddt_plan_commands.specs.declared.arguments.Form.TheVariants.{Text, Json}
 use Rattle.ddt_plan_commands.specs.declared.effects.Effects.{Effects}
-use Rattle.ddt_plan_commands.specs.declared.extents.Extent.{Extent}
+use Rattle.ddt_plan_commands.specs.declared.extent.Extent.{Extent}
 use Rattle.ddt_plan_commands.specs.declared.review.Review.{Review}
-use Rattle.ddt_plan_commands.specs.declared.tally.Tally.{Tally}
+use Rattle.ddt_plan_commands.specs.declared.row_tally.RowTally.{RowTally}
 use Rattle.ddt_plan_commands.specs.Review.{is_different, tally_of}
 
 -- A number up to 2^128 - 2; one that is larger, and so was cut to 2^128 - 1, is said to be at least that.
@@ -35,7 +35,7 @@ extent_text word e =
     ++ large_field (codes "IPv6 addresses") e.ipv6
 
 -- So many that are gone, that are new and that differ.
-unfoldable pub tally_text : List ℕ → Tally → List ℕ
+unfoldable pub tally_text : List ℕ → RowTally → List ℕ
 tally_text word t =
     head_text word ++ count_field (codes "lost") t.lost ++ count_field (codes "gained") t.gained
     ++ count_field (codes "changed") t.changed
@@ -68,7 +68,7 @@ extent_data e =
     (member (codes "ipv6") (string (number_text e.ipv6)) no_members)))
 
 -- the numbers of a tally
-abbrev pub tally_data : Tally → Data
+abbrev pub tally_data : RowTally → Data
 tally_data t =
     object (member (codes "changed") (number (unsigned t.changed)) (member (codes "gained") (number (unsigned t.gained))
     (member (codes "lost") (number (unsigned t.lost)) no_members)))

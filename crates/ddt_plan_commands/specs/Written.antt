@@ -9,8 +9,8 @@ use Rattle.ddt_plan.specs.declared.change_list.Change.{Change}
 use Rattle.ddt_plan.specs.declared.groups.GroupChange.{GroupChange}
 use Rattle.ddt_plan.specs.declared.counts.OutcomeCounts.{OutcomeCounts}
 use Rattle.ddt_plan.specs.declared.counts.ChangeCounts.{ChangeCounts}
-use Rattle.ddt_plan_commands.specs.declared.words.Form.{Form}
-use Rattle.ddt_plan_commands.specs.declared.words.Form.TheVariants.{Text, Json}
+use Rattle.ddt_plan_commands.specs.declared.arguments.Form.{Form}
+use Rattle.ddt_plan_commands.specs.declared.arguments.Form.TheVariants.{Text, Json}
 use Rattle.ddt_plan_commands.specs.Lines.{block_text, change_text, counts_text, change_counts_text, group_text}
 use Rattle.ddt_plan_commands.specs.Lines.{negative_cache_text, server_cache_text}
 use Rattle.ddt_plan_commands.specs.Objects.{block_data, change_data, counts_data, change_counts_data, group_data, cache_data}

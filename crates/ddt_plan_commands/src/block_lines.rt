@@ -1,12 +1,12 @@
-//! Blocks, written as they are found.
+//! A sink that writes the line of each block as it is found.
 
 ghost use Rattle.std.specs.Prelude.{◌≡◌, IfOk};
 ghost use Rattle.ddt_plan_commands.specs.Sinks.{TakesBlock};
 ghost use Rattle.ddt_plan_commands.specs.Written.{is_hole as is_hole_of, written_block};
 
+use crate::arguments::Form;
 use crate::lines::block_fields;
 use crate::objects::block_object;
-use crate::words::Form;
 use ddt_lines::print;
 use ddt_path::Outcome;
 use ddt_plan::{Block, Sink};
@@ -14,10 +14,10 @@ use std::alloc::{AllocError, Global};
 use std::io;
 use std::io::Write;
 
-/// Why a line isn't written whole.
+/// The error of a line that isn't written completely.
 #[derive(Clone, Copy, Debug, PartialEq, Eq)]
 pub enum LineFault {
-    /// There is no memory for it.
+    /// Out of memory.
     Memory,
     /// The writer failed.
     Unprinted,
@@ -45,7 +45,7 @@ impl From<io::Error> for LineFault {
     }
 }
 
-/// Writes a line for each block, or for each that is no hole.
+/// Writes a line for each block, or for each that is no delegation hole.
 #[derive(Drop)]
 pub struct BlockLines<W> {
     pub alloc: Global,
@@ -54,7 +54,7 @@ pub struct BlockLines<W> {
     pub out: W,
 }
 
-/// The line of a block, in a form. Fails only if out of memory.
+/// Returns the line of a block in a form.
 fn block_line(alloc: Global, form: Form, block: &Block) -> Result<Vec<u8>, AllocError>
     ensures { IfOk result (λ line. line.items ≡ written_block form block.now) }
 {

@@ -1,13 +1,13 @@
-//! Changes, written as they are found.
+//! A sink that writes the line of each change as it is found.
 
 ghost use Rattle.std.specs.Prelude.{◌≡◌, IfOk};
 ghost use Rattle.ddt_plan_commands.specs.Sinks.{TakesChange};
 ghost use Rattle.ddt_plan_commands.specs.Written.{written_change};
 
+use crate::arguments::Form;
 use crate::block_lines::LineFault;
 use crate::lines::change_fields;
 use crate::objects::change_object;
-use crate::words::Form;
 use ddt_lines::print;
 use ddt_plan::{Change, Sink};
 use std::alloc::{AllocError, Global};
@@ -21,7 +21,7 @@ pub struct ChangeLines<W> {
     pub out: W,
 }
 
-/// The line of a change, in a form. Fails only if out of memory.
+/// Returns the line of a change in a form.
 fn change_line(alloc: Global, form: Form, change: &Change) -> Result<Vec<u8>, AllocError>
     ensures { IfOk result (λ line. line.items ≡ written_change form change.now) }
 {

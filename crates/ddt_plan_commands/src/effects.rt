@@ -1,4 +1,4 @@
-//! What changes do to identifiers, counted as they are found.
+//! The effects of changes on identifiers, counted as the changes are found.
 
 ghost use Rattle.std.specs.Prelude.{◌≡◌};
 ghost use Rattle.ddt_plan.specs.Changes.{are_same_servers as are_same_servers_of};
@@ -14,22 +14,22 @@ ghost use Rattle.ddt_plan_commands.specs.Effects.{
 ghost use Rattle.ddt_plan_commands.specs.Written.{is_hole as is_hole_of, was_negative as was_negative_of};
 
 use crate::block_lines::{LineFault, is_hole};
-use crate::extents::Extent;
+use crate::extent::Extent;
 use ddt_path::{LocatorSet, Outcome};
 use ddt_plan::{Change, Sink};
 
-/// What changes do.
+/// The effects of changes.
 #[derive(Clone, Copy, Debug, Default, PartialEq, Eq)]
 pub struct Effects {
     /// Whether there was a change.
     pub some: bool,
-    /// Whether one was a hole, or a site that isn't registered, before.
+    /// Whether one was a delegation hole before, or lay in a site that isn't registered.
     pub negative: bool,
-    /// What was delegated and is a hole now.
+    /// Blocks that were delegated and are holes now.
     pub holes: Extent,
-    /// What was registered and lies in a site that isn't registered now.
+    /// Blocks that were registered and lie in a site that isn't registered now.
     pub unregistered: Extent,
-    /// What has other Map-Servers than it had.
+    /// Blocks whose Map-Servers changed.
     pub moved: Extent,
 }
 
@@ -83,7 +83,7 @@ fn are_other_servers(before: Option<LocatorSet>, after: Option<LocatorSet>) -> b
     }
 }
 
-/// Whether they are the same locators in the same order.
+/// Returns whether both sets have the same locators in the same order.
 pub(crate) fn are_same_servers(before: &LocatorSet, after: &LocatorSet) -> bool
     ensures { result ≡ are_same_servers_of before.now after.now }
 {

@@ -1,4 +1,4 @@
-//! The register of a path, and a prefix of a word.
+//! Reads the register at a path, and the prefix in a word.
 
 ghost use Rattle.std.specs.Prelude.{◌≡◌, ◌≢◌, List, ℕ, Ok, Err, None, Some, IfOk, IfErr};
 ghost use Rattle.ddt_text.specs.FirstFault.{prefix_in};
@@ -14,7 +14,8 @@ use ddt_text::parse_prefix;
 use std::alloc::Global;
 use std::io::Read;
 
-/// The accepted register of a source that could be opened, or why there is none.
+/// Returns the accepted register of a source. Refused as NoRegister if the source is None, since its path can't be
+/// opened; if its bytes are no accepted register; or if out of memory.
 pub fn register_of<F: Read + Drop>(
     alloc: Global,
     source: Option<F>,
@@ -31,7 +32,7 @@ pub fn register_of<F: Read + Drop>(
     }
 }
 
-/// The prefix that a word spells.
+/// Returns the prefix that a word spells. Refused as BadPrefix.
 pub fn prefix_of(word: &str) -> Result<Prefix, PlanRefusal<'static>>
     ensures found { IfOk result (λ p. prefix_in word.now ≡ Ok p) }
     ensures refused { IfErr result (λ why. bad_prefix (prefix_in word.now) ≡ Some why) }

@@ -1,4 +1,5 @@
-//! Zones, sites and groups that differ, as lines of fields that a tab divides. What appends fails only if out of memory.
+//! Zones, sites and groups that differ, as lines of fields that a tab divides. What appends fails only if out of
+//! memory.
 
 ghost use Rattle.std.specs.Prelude.{◌≡◌, ◌++◌, IfOk, OnOk};
 ghost use Rattle.ddt_lines.specs.Lines.{ended, spaced};

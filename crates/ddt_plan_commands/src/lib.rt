@@ -1,44 +1,46 @@
-//! The commands of the companion program: what a register says of all identifiers, and what a change of it changes,
-//! over any files and streams. Each line is written as it is found, and none is kept.
+//! The command line of `ddtplan`, and its commands `blocks` and `diff`: what a register says of all identifiers, and
+//! what a change of it changes, over any files and streams. Each line is written as it is found, and none is stored.
 //!
-//! In reading order: `words` (what is asked), `command_line` (the words that ask it), `listed_blocks`, `told_changes`
-//! (two commands), `block_lines`, `change_lines` (the sinks that write), `review` (what differs), with `effects`,
-//! `extents` and `referrals` below it, `summary`, `tally`, `after_changes`, `lines`, `item_lines`, `objects` and
-//! `item_objects` (a line as text and as JSON), `counts`, `inputs`, `refusal`, `stop`, `end`. The other commands have
-//! crates of their own.
-//! Tests: ddt_rollout_tests/plan_commands.
+//! Calls that return `AllocError` fail only if out of memory.
+//!
+//! In reading order: `arguments` (what each command is asked), `command_line` (the words, as clap reads them),
+//! `blocks_command`, `diff_command`, `block_lines`, `change_lines` (the sinks that write), `review` (what differs),
+//! with `effects`, `extent` and `referrals` below it, `summary`, `row_tally`, `heading_and_ending`, `lines`,
+//! `item_lines`, `objects` and `item_objects` (a line as text and as JSON), `counts_lines`, `inputs`, `refusal`,
+//! `command_error`, `exit_status`. The other commands have crates of their own.
+//! Tests: ddt_command_tests/companion/plan_commands.
 #![tactic(auto)]
 
-mod after_changes;
+mod arguments;
 mod block_lines;
+mod blocks_command;
 mod change_lines;
+mod command_error;
 mod command_line;
-mod counts;
+mod counts_lines;
+mod diff_command;
 mod effects;
-mod end;
-mod extents;
+mod exit_status;
+mod extent;
+mod heading_and_ending;
 mod inputs;
 mod item_lines;
 mod item_objects;
 mod lines;
-mod listed_blocks;
 mod objects;
 mod referrals;
 mod refusal;
 mod review;
-mod stop;
+mod row_tally;
 mod summary;
-mod tally;
-mod told_changes;
-mod words;
 
-pub use end::End;
-pub use inputs::register_of;
-pub use listed_blocks::run_blocks;
-pub use refusal::PlanRefusal;
-pub use told_changes::run_diff;
-pub use words::{
-    AskAsked, Asked, BlocksAsked, CompileAsked, DiffAsked, ExportAsked, FaultsAsked, Form,
-    LadderAsked, LoopbackAsked, PairAsked, ReportAsked, RolloutAsked, SeamAsked, StepAsked, Told,
+pub use arguments::{
+    AskAsked, Asked, BlocksAsked, CompileAsked, DiffAsked, DiffOutput, ExportAsked, FaultsAsked,
+    Form, LadderAsked, LoopbackAsked, PairAsked, ReportAsked, RolloutAsked, SeamAsked, StepAsked,
     TreeAsked, WarnAsked, read_asked,
 };
+pub use blocks_command::run_blocks;
+pub use diff_command::run_diff;
+pub use exit_status::ExitStatus;
+pub use inputs::register_of;
+pub use refusal::PlanRefusal;

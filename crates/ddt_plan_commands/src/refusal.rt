@@ -1,18 +1,18 @@
-//! Why a command gives no answer, and the line that says so.
+//! The reason why a command gives no answer, and its text.
 
 use ddt_commands::{Refusal, RegisterRefusal};
 use ddt_text::TextFault;
 use std::alloc::AllocError;
 use std::fmt;
 
-/// The first thing that stands in a command's way.
+/// The reason why a command gives no answer.
 #[derive(Clone, Copy, Debug)]
 pub enum PlanRefusal<'a> {
     /// The word is no prefix.
     BadPrefix(TextFault),
-    /// The file of this name gives no register, or one that isn't accepted.
+    /// The file at this path has no register, or one that isn't accepted.
     NoRegister { path: &'a str, why: Refusal<'a> },
-    /// There are more than 18446744073709551615 of a kind.
+    /// There are more than 18446744073709551615 blocks of a kind.
     CountFull,
     OutOfMemory,
 }

@@ -1,37 +1,37 @@
-//! What differs between two registers, apart from the lines of the blocks.
+//! The differences between two registers, apart from the lines of the blocks.
 
 ghost use Rattle.std.specs.Prelude.{◌≡◌, ◌||◌, [], IfOk, IfErr, false};
 ghost use Rattle.ddt_plan_commands.specs.Refusals.{IsWhyUnwritten};
 ghost use Rattle.ddt_plan_commands.specs.Review.{IsReview, has_items as has_items_of, is_different as is_different_of};
 
+use crate::command_error::CommandError;
 use crate::effects::Effects;
 use crate::referrals::has_outdated;
-use crate::stop::Stop;
 use ddt_check::Accepted;
 use ddt_path::{Locator, Prefix, Xeid};
 use ddt_plan::{GroupChange, ItemChanges, Reading, changes, group_changes, item_changes};
 use std::alloc::Global;
 
-/// What differs.
+/// The differences between two registers.
 #[derive(Debug, Drop)]
 pub struct Review {
-    /// What the changes of the blocks do.
+    /// The effects of the changes of blocks.
     pub effects: Effects,
     /// The groups whose configuration changes.
     pub groups: Vec<GroupChange>,
     /// The zones, sites and groups that differ.
     pub items: ItemChanges,
-    /// Whether a referral that caches may hold is out of date.
+    /// Whether a referral that caches may have is out of date.
     pub outdated: bool,
 }
 
-/// Finds what differs from one register to another.
+/// Finds the differences between two registers.
 pub(crate) fn compare(
     alloc: Global,
     reading: Reading,
     before: &Accepted,
     after: &Accepted,
-) -> Result<Review, Stop<'static>>
+) -> Result<Review, CommandError<'static>>
     ensures found { IfOk result (IsReview reading before.now after.now) }
     ensures refused { IfErr result (IsWhyUnwritten false) }
 {
@@ -48,7 +48,7 @@ pub(crate) fn compare(
     })
 }
 
-/// Whether anything differs.
+/// Returns whether anything differs.
 pub(crate) fn is_different(found: &Review) -> bool
     ensures { result ≡ is_different_of found.now }
 {
@@ -61,7 +61,7 @@ fn has_items(items: &ItemChanges) -> bool
     !items.zones.is_empty() || !items.sites.is_empty() || !items.groups.is_empty()
 }
 
-/// The prefix of everything.
+/// Returns the prefix that covers everything.
 pub(crate) fn everything() -> Prefix
     ensures { result ≡ [] }
 {

@@ -24,12 +24,12 @@ ghost use Rattle.ddt_plan_commands.specs.Summary.{
   written_summary as written_summary_of,
 };
 
+use crate::arguments::Form;
 use crate::effects::Effects;
-use crate::extents::Extent;
+use crate::extent::Extent;
 use crate::objects::line_of;
 use crate::review::{Review, is_different};
-use crate::tally::{Tally, count_rows};
-use crate::words::Form;
+use crate::row_tally::{RowTally, count_rows};
 use ddt_plan::ItemChanges;
 use serde_json::{Value, json};
 use std::alloc::{AllocError, Global};
@@ -103,7 +103,7 @@ fn push_extent(text: &mut Vec<u8>, word: &str, extent: Extent) -> Result<(), All
 
 /// Appends the line of a tally.
 #[tactic(auto, unfolding(crate::specs::Summary::tally_text))]
-fn push_tally(text: &mut Vec<u8>, word: &str, tally: Tally) -> Result<(), AllocError>
+fn push_tally(text: &mut Vec<u8>, word: &str, tally: RowTally) -> Result<(), AllocError>
     ensures { OnOk result (text.new.items ≡ text.old.items ++ ended (tally_text word.now tally)) }
 {
     push_head(text, word)?;
@@ -220,7 +220,7 @@ fn extent_value(alloc: Global, extent: Extent) -> Result<Value, AllocError>
     json!(in alloc; {"blocks": blocks, "ipv4": ipv4, "ipv6": ipv6})
 }
 
-fn tally_value(alloc: Global, tally: Tally) -> Result<Value, AllocError>
+fn tally_value(alloc: Global, tally: RowTally) -> Result<Value, AllocError>
     ensures { IfOk result (λ v. view v ≡ tally_data tally) }
 {
     json!(in alloc; {"changed": tally.changed, "gained": tally.gained, "lost": tally.lost})

@@ -1,5 +1,7 @@
 -- The locators of a field, part after part.
-use Rattle.std.proofs.Common.{◌≡◌, List, [], ◌∷◌, ◌++◌, ℕ, Option, Some, None, Bor, Result, Ok, Err, refl, sym, ap, ◌∙◌, append_assoc}
+use Rattle.std.proofs.Common.{◌≡◌, List, [], ◌∷◌, ◌++◌, length, ℕ, zero, suc, Bool, true, false, ◌||◌, nat_eq, Option, Some, None, Bor, Result, Ok, Err, refl, sym, ap, ◌∙◌, append_assoc, arith}
+use Rattle.std.specs.List.{All, list_any}
+use Rattle.std.proofs.lemmas.List.Splits.{slice_split_none}
 use Rattle.std.proofs.lemmas.List.{append-nil}
 use Rattle.std.proofs.lemmas.Iterator.{YieldsList}
 use Rattle.std.specs.Iterator.{AlwaysYields}
@@ -8,7 +10,7 @@ use Rattle.ddt_text.specs.FirstFault.{locator_in}
 use Rattle.ddt_path.specs.Steps.{◌>>=◌}
 use Rattle.ddt_register.specs.declared.fault.ReadFault.{ReadFault}
 use Rattle.ddt_register.specs.declared.fault.ReadFault.TheVariants as Fault
-use Rattle.ddt_register.specs.Spelled.{field_of, each_locator, UnlessMemory}
+use Rattle.ddt_register.specs.Spelled.{field_of, each_locator, locators_in, UnlessMemory}
 
 -- what one call of `next` says of the list that an iterator has left
 ended : {S A B : Type 0} (steps : S → Option A → S → Type 0) (v : A → B) (left : List B) (old new : S) → AlwaysYields steps v old left → steps old None new → left ≡ []
@@ -72,3 +74,26 @@ pub PartsLeft-end : {S : Type 0} {steps : S → Option (Bor (List ℕ)) → S �
     → PartsLeft steps old fault locators all → steps old None new → all ≡ Ok locators
 PartsLeft-end {steps = steps} {fault = fault} {locators = locators} old new p s =
     p.rest ∙ ap (λ (l : List (List ℕ)). onto locators (each_locator fault l)) (ended steps (λ x. x.now) p.left old new p.yields.runs s) ∙ ap Ok (append-nil locators)
+
+-- ---- a text without a space
+
+neither : (a b : Bool) → (a || b) ≡ false → (a ≡ false) × (b ≡ false)
+neither false b e = (refl, e)
+neither true b e = cc e
+
+none_passes : (p : ℕ → Bool) (text : List ℕ) → list_any p text ≡ false → All (λ x. p x ≡ false) text
+none_passes p [] e k d l = absurd (omega arith)
+none_passes p (x ∷ xs) e zero d l = (neither (p x) (list_any p xs) e).0
+none_passes p (x ∷ xs) e (suc k) d l = none_passes p xs (neither (p x) (list_any p xs) e).1 k d (omega arith)
+
+-- a text that has no space is its one part
+one_part : (fault : ReadFault) (text : List ℕ) → nat_eq (length text) 0 ≡ false → list_any (λ b. nat_eq b 32) text ≡ false → locators_in fault text ≡ each_locator fault (text ∷ [])
+one_part fault text e n = rw e (ap (λ (parts : List (List ℕ)). each_locator fault parts) (slice_split_none (λ b. nat_eq b 32) text (none_passes (λ b. nat_eq b 32) text n)))
+
+pub one_part-locator : (fault : ReadFault) (text : List ℕ) (a : Locator) → nat_eq (length text) 0 ≡ false → list_any (λ b. nat_eq b 32) text ≡ false
+    → field_of fault (locator_in text) ≡ Ok a → locators_in fault text ≡ Ok (a ∷ [])
+one_part-locator fault text a e n f = one_part fault text e n ∙ rw f refl
+
+pub one_part-fault : (fault : ReadFault) (text : List ℕ) (why : ReadFault) → nat_eq (length text) 0 ≡ false → list_any (λ b. nat_eq b 32) text ≡ false
+    → field_of fault (locator_in text) ≡ Err why → UnlessMemory (Err why) (locators_in fault text)
+one_part-fault fault text why e n f = UnlessMemory-fault why (locators_in fault text) (one_part fault text e n ∙ rw f refl)

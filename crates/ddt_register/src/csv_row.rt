@@ -6,6 +6,7 @@ ghost use Rattle.ddt_text.specs.FirstFault.{locator_in, prefix_in};
 ghost use Rattle.ddt_register.specs.Rows.{most_rows};
 ghost use Rattle.ddt_register.specs.Spelled.{row_in, kind_in, item_in, group_in, zone_in, site_in, locators_in, name_in, empty_in, field_of, columns_in, are_columns as are_columns_of, UnlessMemory};
 
+use crate::etrs::Etrs;
 use crate::fault::ReadFault;
 use crate::group::Group;
 use crate::site::Site;
@@ -70,6 +71,16 @@ fn read_locators(alloc: Global, row: u32, text: &[u8]) -> Result<Listed<Locator>
         locators.push(locator).map_err(|_| ReadFault::Memory)?;
     }
     Ok(Listed::of(locators))
+}
+
+/// The locators of a site's ETRs, as `read_locators` reads them. One alone takes no vector.
+fn read_etrs(alloc: Global, row: u32, text: &[u8]) -> Result<Etrs, ReadFault>
+    ensures { UnlessMemory result (locators_in (ReadFault.Address row) text.now) }
+{
+    if text.is_empty() || text.contains(&b' ') {
+        return Ok(Etrs::of(read_locators(alloc, row, text)?.into_vec()));
+    }
+    Ok(Etrs::one(read_locator(row, text)?))
 }
 
 /// Nothing where a field is empty, as it must be; else this fault.
@@ -164,7 +175,7 @@ impl Fields<'_> {
     {
         let prefix = read_prefix(self.row, self.prefix)?;
         read_no_name(self.row, self.group)?;
-        let etrs = read_locators(alloc, self.row, self.addresses)?;
+        let etrs = read_etrs(alloc, self.row, self.addresses)?;
         Ok(Row::Site(Site {
             prefix,
             etrs,

@@ -1,10 +1,12 @@
 //! The register of a mapping system: its zones, its sites and its server groups, each with the row that it stands in.
 //!
-//! In reading order: `zone`, `site`, `group`, `item`, `row_order`, `register`; `csv_row`, `items`, `reader`, `fault`; `laws`.
+//! In reading order: `zone`, `etrs`, `site`, `group`, `item`, `row_order`, `register`; `csv_row`, `items`, `reader`,
+//! `fault`; `laws`.
 //! Tests: ddt_register_tests/register.
 #![tactic(auto)]
 
 mod csv_row;
+mod etrs;
 mod fault;
 mod group;
 mod item;
@@ -17,6 +19,7 @@ mod site;
 mod zone;
 
 pub use csv_row::{Row, read_row};
+pub use etrs::Etrs;
 pub use fault::ReadFault;
 pub use group::Group;
 pub use item::{Item, first_row};

@@ -38,7 +38,7 @@ fn written(alloc: Global, rt: &impl Abort, config: &ServerConfig) -> String {
     to_toml(alloc, config).expect(rt, "out of memory")
 }
 
-/// A configuration is the one that a text stands for: both print alike.
+/// A configuration is the one that a text spells: both print the same text.
 fn is_that_of(alloc: Global, rt: &impl Abort, config: &ServerConfig, text: &str) {
     let wanted = from_toml(alloc, text).expect(rt, "a configuration");
     are_alike(alloc, rt, config, &wanted);
@@ -52,9 +52,9 @@ fn are_alike(alloc: Global, rt: &impl Abort, config: &ServerConfig, wanted: &Ser
 /// Registers, and the configurations of their three groups in the order of their rows.
 const COMPILED: &[(&str, [&str; 3])] = &[
     (CAMPUS, [ROOT, TEN, EAST]),
-    // A zone and a site stand before the zone above.
+    // A zone and a site are in rows before the zone above.
     (SCATTERED, [SCATTERED_EAST, SCATTERED_TEN, ROOT]),
-    // Sites inside sites stand side by side.
+    // Sites inside sites are side by side.
     (NESTED_SITES, [ROOT, TEN, NESTED_EAST]),
 ];
 

@@ -96,7 +96,7 @@ fn fails(alloc: Global, rt: &impl Abort, text: &str, fault: ConfigFault) {
     same(rt, &from_toml(alloc, text).err(), &Some(fault), &text);
 }
 
-/// The text is refused with this fault where the one part stands in the place of the other.
+/// The text is refused with this fault if the one part is replaced by the other.
 fn fails_replaced(
     alloc: Global,
     rt: &impl Abort,
@@ -151,7 +151,7 @@ fn a_text_is_read(rt: HostRuntime) {
     reads_root(rt.alloc(), &rt, TWO_AUTHORITIES_BY_HAND);
 }
 
-/// Texts by hand, and the texts that are written of what they stand for.
+/// Texts by hand, and the texts that are written of the configurations that they spell.
 const WRITTEN: &[(&str, &str)] = &[
     (EAST_BY_HAND, EAST),
     (TWO_AUTHORITIES_BY_HAND, TWO_AUTHORITIES),
@@ -198,7 +198,7 @@ fn no_authority_is_the_empty_list_and_other_keys_are_ignored(rt: HostRuntime) {
     reads_east(alloc, &rt, other.as_str());
 }
 
-/// A part of the text of east, what stands in its place, and the fault.
+/// A part of the text of east, its replacement, and the fault.
 const FIRST_FAULTS: &[(&str, &str, ConfigFault)] = &[
     ("name = \"east\"", "name =", ConfigFault::Toml),
     ("name = \"east\"", "", ConfigFault::Field(Key::Name)),
@@ -289,7 +289,7 @@ const NINE_LOCATORS: &str =
 const NINE_ETRS: &str =
     "etrs = [\"1.0.0.1\", \"1.0.0.1\", \"1.0.0.1\", \"1.0.0.1\", \"1.0.0.1\", \"1.0.0.1\", \"1.0.0.1\", \"1.0.0.1\", \"1.0.0.1\"]";
 
-/// A configuration, a part of its text, and what stands in its place, of which one condition of the shape is broken.
+/// A configuration, a part of its text, and its replacement, which breaks one condition of the shape.
 const WRONG_SHAPES: &[(&str, &str, &str)] = &[
     (
         EAST_BY_HAND,

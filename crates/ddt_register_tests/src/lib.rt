@@ -1,5 +1,5 @@
 //! The tests of the register, from CSV to what is compiled: `register` of ddt_register, `check` of ddt_check,
-//! `config` of ddt_config, `compile` of ddt_compile, `sealed` of ddt_digest; and `plan` of ddt_plan.
+//! `config` and `sealed` of ddt_config, `compile` of ddt_compile; and `plan` of ddt_plan.
 //! `comparison` is what all assert by.
 #![tactic(auto)]
 

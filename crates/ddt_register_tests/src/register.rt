@@ -27,7 +27,7 @@ fn gives(alloc: Global, rt: &impl Abort, text: &[u8], fault: Option<ReadFault>) 
     same(rt, &read_register(alloc, text).err(), &fault, &text);
 }
 
-/// The register of these rows behind a text gives this fault, or none.
+/// The register of a text followed by these rows gives this fault, or none.
 fn gives_behind(
     alloc: Global,
     rt: &impl Abort,
@@ -154,7 +154,7 @@ fn want_of_memory_is_the_only_other_answer(rt: HostRuntime) {
     }
 }
 
-/// Rows behind those of the campus, and their fault.
+/// Rows after those of the campus, and their fault.
 const NINTH_ROWS: &[(&str, ReadFault)] = &[
     (TOO_FEW_FIELDS, ReadFault::Csv(9)),
     (NO_KIND, ReadFault::Kind(9)),
@@ -207,7 +207,7 @@ fn a_field_that_must_be_empty(rt: HostRuntime) {
     rows_give(rt.alloc(), &rt, "group-node,,ten,\nsite,*,,", None);
 }
 
-/// Rows with more than one space between addresses, with one before or behind them, and with a tab.
+/// Rows with more than one space between addresses, with one before or after them, and with a tab.
 const OTHER_SPACES: &[&str] = &[
     "site,*,,10.0.0.1  10.0.0.2",
     "site,*,, 10.0.0.1",
@@ -306,7 +306,7 @@ fn other_line_ends_blank_lines_and_quotes(rt: HostRuntime) {
     rows_give(alloc, &rt, second, Some(ReadFault::Kind(2)));
 }
 
-/// A row behind the columns.
+/// A row after the names of the columns.
 fn behind_columns(alloc: Global, row: &[u8]) -> Result<Vec<u8>, AllocError> {
     let mut text = Vec::from_slice(alloc, COLUMNS.as_bytes())?;
     text.extend_from_slice(row)?;
@@ -354,7 +354,7 @@ fn many_give(alloc: Global, rt: &impl Abort, rows: u32, last: &str, fault: Optio
     );
 }
 
-/// So many sites are read, and the last one stands in the row of their number.
+/// This number of sites is read, and the last one is in the row of that number.
 fn reads_sites(alloc: Global, rt: &impl Abort, rows: u32) {
     let text = many_rows(alloc, rows, "").expect(rt, "out of memory");
     let register = read(alloc, rt, text.as_slice());
@@ -364,7 +364,7 @@ fn reads_sites(alloc: Global, rt: &impl Abort, rows: u32) {
     same(rt, &last.row, &rows, &"the last site");
 }
 
-/// What stands behind 65535 rows, and the fault.
+/// The text after 65,535 rows, and the fault.
 const TOO_MANY: &[(&str, ReadFault)] = &[
     ("site,*,,\n", ReadFault::TooMany),
     ("zone,*,,\n", ReadFault::TooMany),
@@ -401,7 +401,7 @@ impl<'a> Read for Failing<'a> {
     }
 }
 
-/// The campus, which fails at the call after so many.
+/// The campus, whose reader fails after a number of calls.
 fn failing_after(calls_left: usize) -> Failing<'static> {
     Failing {
         text: CAMPUS.as_bytes(),

@@ -1,7 +1,7 @@
 //! A configuration's text with its seal: read again, cut after each line, and with each key of the seal changed.
 
+use ddt_config::digest::{Key, SealFault, check_seal, seal_in, seal_of, to_sealed_toml};
 use ddt_config::{ServerConfig, from_table, from_toml, to_toml};
-use ddt_digest::{Key, SealFault, check_seal, seal_in, seal_of, to_sealed_toml};
 use ddt_examples::configurations::{EAST, NESTED_EAST, ROOT, SCATTERED_EAST, SCATTERED_TEN, TEN};
 use std::alloc::Global;
 use std::process::Abort;

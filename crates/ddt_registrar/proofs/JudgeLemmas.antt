@@ -10,7 +10,7 @@ use Rattle.ddt_map_register.specs.RegisterRecord.{RegisterRecord}
 use Rattle.ddt_registrar.specs.declared.sender.Sender.{Sender}
 use Rattle.ddt_registrar.specs.declared.refusal.Refusal.{Refusal}
 use Rattle.ddt_registrar.specs.declared.refusal.Refusal.TheVariants.{NoSite, NoKey, WrongCode, Replayed, TooMany, NoRecord}
-use Rattle.ddt_registrar.specs.Judging.{key_of, bears_code, is_fresh, nonce_of, has_room, judged_under, judged_at, judged_from, judged, site_of}
+use Rattle.ddt_registrar.specs.Checks.{key_of, bears_code, is_fresh, nonce_of, has_room, checked_under, checked_at, checked_from, checked, site_of}
 use Rattle.ddt_registrar.specs.State.{Key, Site}
 
 not_ok : {A E : Type 0} (e : E) (a : A) → ◌≡◌ {A = Result A E} (Err e) (Ok a) → ⊥
@@ -27,7 +27,7 @@ module _ (m : Message) (x : Sender) where
   abbrev Bears : Key → Type 0
   Bears k = bears_code k.secret m ≡ true
 
-  bears_under : (r : RegisterRecord) (s : Site) (o : Option Key) (k : Key) → judged_under m r x s o ≡ Ok k → Bears k
+  bears_under : (r : RegisterRecord) (s : Site) (o : Option Key) (k : Key) → checked_under m r x s o ≡ Ok k → Bears k
   bears_under r s None k is = absurd (not_ok NoKey k is)
   bears_under r s (Some a) k is = go (bears_code a.secret m) refl (not (is_fresh a.replay (nonce_of m) s.nonces)) (not (has_room a.replay m r x s)) is
     where
@@ -38,28 +38,28 @@ module _ (m : Message) (x : Sender) where
       go true t false true same = absurd (not_ok TooMany k same)
       go true t false false same = ap (λ (l : Key). bears_code l.secret m) (sym (same_Ok a k same)) ∙ t
 
-  bears_at : (r : RegisterRecord) (o : Option Site) (k : Key) → judged_at m r x o ≡ Ok k → Bears k
+  bears_at : (r : RegisterRecord) (o : Option Site) (k : Key) → checked_at m r x o ≡ Ok k → Bears k
   bears_at r None k is = absurd (not_ok NoSite k is)
   bears_at r (Some s) k is = bears_under r s (key_of m.head s.keys) k is
 
   module _ (sites : List Site) where
     bears_from : (rs : List RegisterRecord) (first : Option Key) → ((k : Key) → first ≡ Some k → Bears k) → (k : Key)
-        → judged_from m x sites rs first ≡ Ok k → Bears k
+        → checked_from m x sites rs first ≡ Ok k → Bears k
     bears_from [] None known k is = absurd (not_ok NoRecord k is)
     bears_from [] (Some a) known k is = ap (λ (l : Key). bears_code l.secret m) (sym (same_Ok a k is)) ∙ known a refl
-    bears_from (r ∷ rs) first known k is = go (judged_at m r x (site_of r sites)) refl is (bears_from rs)
+    bears_from (r ∷ rs) first known k is = go (checked_at m r x (site_of r sites)) refl is (bears_from rs)
       where
         later : (a : Key) → Bears a → (o : Option Key) → ((l : Key) → o ≡ Some l → Bears l) → (l : Key) → Some (unwrap_or o a) ≡ Some l → Bears l
         later a bears None of l same = ap (λ (n : Key). bears_code n.secret m) (sym (same_Some a l same)) ∙ bears
         later a bears (Some b) of l same = of l same
 
-        go : (v : Result Key Refusal) → judged_at m r x (site_of r sites) ≡ v
-            → (v >>= λ a. judged_from m x sites rs (Some (unwrap_or first a))) ≡ Ok k
-            → ((o : Option Key) → ((l : Key) → o ≡ Some l → Bears l) → (l : Key) → judged_from m x sites rs o ≡ Ok l → Bears l) → Bears k
+        go : (v : Result Key Refusal) → checked_at m r x (site_of r sites) ≡ v
+            → (v >>= λ a. checked_from m x sites rs (Some (unwrap_or first a))) ≡ Ok k
+            → ((o : Option Key) → ((l : Key) → o ≡ Some l → Bears l) → (l : Key) → checked_from m x sites rs o ≡ Ok l → Bears l) → Bears k
         go (Err e) t same among = absurd (not_ok e k same)
         go (Ok a) t same among =
             among (Some (unwrap_or first a)) (later a (bears_at r (site_of r sites) a t) first known) k same
 
     -- a message is authentic under the key under which it is taken
-    pub judged_bears : (k : Key) → judged m x sites ≡ Ok k → Bears k
+    pub judged_bears : (k : Key) → checked m x sites ≡ Ok k → Bears k
     judged_bears k is = bears_from m.records None (λ l same. absurd (none-some l same)) k is

@@ -5,7 +5,7 @@ use Rattle.ddt_path.specs.Covers.{is_same_path}
 use Rattle.ddt_registrar.specs.declared.key.Replay.{Replay}
 use Rattle.ddt_registrar.specs.declared.key.Replay.TheVariants.{Increasing, Any}
 use Rattle.ddt_registrar.specs.declared.registration.LastNonce.{LastNonce}
-use Rattle.ddt_registrar.specs.Judging.{is_increasing, key_named}
+use Rattle.ddt_registrar.specs.Checks.{is_increasing, key_named}
 use Rattle.ddt_registrar.specs.State.{Key, Registration, Site}
 
 -- one rule for nonces

@@ -15,7 +15,7 @@ use Rattle.ddt_registrar.specs.declared.sender.Sender.{Sender}
 use Rattle.ddt_registrar.specs.declared.registration.LastNonce.{LastNonce}
 use Rattle.ddt_registrar.specs.declared.refusal.Refusal.{Refusal}
 use Rattle.ddt_registrar.specs.declared.refusal.Refusal.TheVariants as refusal
-use Rattle.ddt_registrar.specs.Judging.{nonce_of, is_remembered, judged}
+use Rattle.ddt_registrar.specs.Checks.{nonce_of, is_remembered, checked}
 use Rattle.ddt_registrar.specs.Lists.{put_by}
 use Rattle.ddt_registrar.specs.Registration.{etrs_in, lifetime, is_same_registrant, is_of_same_xtr, is_in_force, registered_etrs}
 use Rattle.ddt_registrar.specs.Sender.{is_same_sender}
@@ -78,13 +78,13 @@ notify_for m k = if m.head.want_notify then Some (notify_to k.secret m) else Non
 -- a message is taken under a key, and this is the Map-Notify for it
 pub record IsNotifyFor (m : Message) (x : Sender) (sites : List Site) (notify : Option (List ℕ)) : Type 0 where
   pub key : Key
-  pub taken : judged m x sites ≡ Ok key
+  pub taken : checked m x sites ≡ Ok key
   pub is : notify ≡ notify_for m key
 
 -- a message isn't taken: it is refused for what it says, or it may be registered under a key but memory ran out
 pub data IsNotNotified (m : Message) (x : Sender) (sites : List Site) (e : Refusal) : Type 0 where
-  NotJudged : judged m x sites ≡ Err e → IsNotNotified m x sites e
-  NoMemory : (key : Key) → judged m x sites ≡ Ok key → e ≡ refusal.Memory → IsNotNotified m x sites e
+  NotJudged : checked m x sites ≡ Err e → IsNotNotified m x sites e
+  NoMemory : (key : Key) → checked m x sites ≡ Ok key → e ≡ refusal.Memory → IsNotNotified m x sites e
 
 -- a message is taken, with this Map-Notify for it: each of its records has changed its site
 pub record IsTaken (now : ℕ) (m : Message) (x : Sender) (old new : List Site) (notify : Option (List ℕ)) : Type 0
@@ -102,8 +102,8 @@ pub record IsInPart (now : ℕ) (m : Message) (x : Sender) (old new : List Site)
 -- A message isn't taken. Either it is refused for what it says, and nothing has changed. Or it may be registered under
 -- a key, but memory ran out.
 pub data IsRefused (now : ℕ) (m : Message) (x : Sender) (old new : List Site) (e : Refusal) : Type 0 where
-  Judged : judged m x old ≡ Err e → new ≡ old → IsRefused now m x old new e
-  OutOfMemory : (key : Key) → judged m x old ≡ Ok key → e ≡ refusal.Memory → IsInPart now m x old new
+  Judged : checked m x old ≡ Err e → new ≡ old → IsRefused now m x old new e
+  OutOfMemory : (key : Key) → checked m x old ≡ Ok key → e ≡ refusal.Memory → IsInPart now m x old new
       → IsRefused now m x old new e
 
 -- a site at a moment: what is over is gone

@@ -1,4 +1,4 @@
-//! A site whose ETRs register.
+//! A site with keys, whose ETRs register: its registrations, and its ETRs in force.
 
 ghost use Rattle.std.specs.Prelude.{◌≡◌, filter, not};
 ghost use Rattle.std.specs.List.{list_any};
@@ -7,23 +7,23 @@ ghost use Rattle.ddt_registrar.specs.Registration.{is_in_force};
 ghost use Rattle.ddt_registrar.specs.Taking.{etrs_in_force as etrs_in_force_of, site_at};
 
 use crate::key::{Key, is_of_key, is_still_under};
-use crate::ranking::Ranking;
+use crate::ranked_etrs::RankedEtrs;
 use crate::registration::{LastNonce, Registration};
 use ddt_path::{LocatorSet, Prefix, Prefixed};
 use std::marker::Model;
 
-/// A site with its keys, and what is registered for it.
+/// A site with its keys and its registrations.
 #[derive(Debug, Drop)]
 pub struct KeyedSite {
     pub prefix: Prefix,
     pub keys: Vec<Key>,
     /// The ETRs that the configuration names.
     pub configured: LocatorSet,
-    /// Whether these are used again after the last registration is over.
+    /// Whether the configured ETRs are used again after the last registration is over.
     pub falls_back: bool,
-    /// Whether an xTR has registered: a withdrawal registers nothing.
+    /// Whether an xTR has registered. A withdrawal doesn't count.
     pub has_registered: bool,
-    /// What is registered, once for each xTR, in the order in which they first registered.
+    /// The live registrations, one of each xTR, in the order in which the xTRs first registered.
     pub live: Vec<Registration>,
     /// The last nonce of each xTR under each key whose nonces have to increase.
     pub nonces: Vec<LastNonce>,
@@ -53,21 +53,21 @@ impl Prefixed for KeyedSite {
     }
 }
 
-/// Takes away the registrations that are over.
+/// Removes the registrations that are over.
 fn end(live: &mut Vec<Registration>, now: u64)
     ensures { live.new.items ≡ filter (is_in_force now) live.old.items }
 {
     live.retain(|registration| now < registration.deadline);
 }
 
-/// Takes away what was registered under keys of before that were taken away or are others now.
+/// Removes the registrations under keys of `before` that aren't among `keys` or have changed.
 fn revoke(live: &mut Vec<Registration>, before: &[Key], keys: &[Key])
     ensures { live.new.items ≡ filter (is_still_under_of before.now keys.now) live.old.items }
 {
     live.retain(|registration| is_still_under(before, keys, registration));
 }
 
-/// Takes away the nonces of which there is no key any more.
+/// Removes the nonces whose key isn't among `keys`.
 fn forget(nonces: &mut Vec<LastNonce>, keys: &[Key])
     ensures { nonces.new.items ≡ filter (is_of_key_of keys.now) nonces.old.items }
 {
@@ -75,10 +75,10 @@ fn forget(nonces: &mut Vec<LastNonce>, keys: &[Key])
 }
 
 impl KeyedSite {
-    /// Its ETRs in force, eight at most: those that are registered, by priority; or where there are none, those of its
-    /// configuration until an xTR has registered, and after that only where it falls back. What `ranking` held before
-    /// doesn't count. It allocates nothing.
-    pub fn etrs_in_force(&self, ranking: &mut Ranking) -> LocatorSet
+    /// The ETRs in force, eight at most. They are the registered ones, by priority. Without a registration they are the
+    /// configured ones until an xTR has registered, and after that only if the site falls back. The content of
+    /// `ranking` is overwritten. Allocates nothing.
+    pub fn etrs_in_force(&self, ranking: &mut RankedEtrs) -> LocatorSet
         ensures { result ≡ etrs_in_force_of self.now }
     {
         if !self.live.is_empty() {
@@ -90,7 +90,7 @@ impl KeyedSite {
         }
     }
 
-    /// Whether a registration is over.
+    /// Whether a registration is over at this moment, in milliseconds.
     pub(crate) fn has_ended(&self, now: u64) -> bool
         ensures { result ≡ list_any (λ r. not (is_in_force now r)) self.now.live }
     {
@@ -99,15 +99,15 @@ impl KeyedSite {
             .any(|registration| now >= registration.deadline)
     }
 
-    /// Takes away what is over at this moment, in milliseconds.
+    /// Removes the registrations that are over at this moment, in milliseconds.
     pub(crate) fn end(&mut self, now: u64)
         ensures { self.new ≡ site_at now self.old }
     {
         end(&mut self.live, now);
     }
 
-    /// Takes over what was registered for the site before: whether an xTR has registered, the registrations under keys
-    /// that there still are, and the last nonces under keys that there are. It allocates nothing.
+    /// Carries over the state of the site before: whether an xTR has registered, the registrations under keys that are
+    /// unchanged, and the last nonces under keys that the site has. Allocates nothing.
     pub(crate) fn carry_over(&mut self, before: KeyedSite)
         ensures { self.new ≡ carried before self.old }
     {

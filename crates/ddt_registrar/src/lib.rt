@@ -1,26 +1,27 @@
-//! The registrar of a Map-Server: which Map-Registers are taken, what is registered, and until when (RFC 9301, sections
-//! 5.6 and 8.2). A server that follows it answers by a configuration in which only the ETRs of keyed sites differ.
+//! The registrar of a Map-Server: which Map-Registers are accepted, what is registered, and until when (RFC 9301,
+//! sections 5.6 and 8.2). A server that follows the registrar answers by a configuration in which only the ETRs of
+//! keyed sites differ.
 //!
-//! In reading order: `key`, `sender`, `registration`, `keyed_site`, `refusal`, `judging`, `arrival`,
-//! `ranking`, `registrar`.
-//! Tests: ddt_registration_tests/registrar.
+//! In reading order: `key`, `sender`, `registration`, `keyed_site`, `refusal`, `register_checks`,
+//! `received_register`, `ranked_etrs`, `registrar`.
+//! Tests: ddt_daemon_tests/registrations/registrar.
 #![tactic(auto)]
 
-mod arrival;
-mod judging;
 mod key;
 mod keyed_site;
 mod lists;
-mod ranking;
+mod ranked_etrs;
+mod received_register;
 mod refusal;
+mod register_checks;
 mod registrar;
 mod registration;
 mod sender;
 
-pub use arrival::Arrival;
 pub use key::{Key, Replay};
 pub use keyed_site::KeyedSite;
-pub use ranking::Ranking;
+pub use ranked_etrs::RankedEtrs;
+pub use received_register::ReceivedRegister;
 pub use refusal::{NotAdded, Refusal};
 pub use registrar::Registrar;
 pub use registration::{LastNonce, Registration};

@@ -1,14 +1,15 @@
-//! Why a Map-Register isn't taken, and why a site isn't added.
+//! Why a Map-Register is refused, and why a site isn't added to a registrar.
 
 use thiserror::Error;
 
-/// Why a Map-Register changes nothing and gets no answer, in the order in which a record is looked at.
+/// Why a Map-Register is refused: it changes nothing and gets no answer. The variants are in the order of the checks of
+/// a record.
 #[derive(Clone, Copy, Debug, PartialEq, Eq, Error)]
 pub enum Refusal {
     /// It has no record.
     #[error("1 NoRecord")]
     NoRecord,
-    /// No site with a key has just the prefix of a record.
+    /// No site with a key has exactly the prefix of a record.
     #[error("2 NoSite")]
     NoSite,
     /// The site has no key of the message's Key ID and Algorithm ID.

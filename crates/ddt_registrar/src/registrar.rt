@@ -1,4 +1,4 @@
-//! All sites with keys, and what Map-Registers and the clock change of them.
+//! The registrar: all sites with keys, and how Map-Registers and the clock change them.
 
 ghost use Rattle.std.specs.Prelude.{◌≡◌, ◌↔◌, ◌<◌, ◌≤◌, ◌++◌, [], ◌∷◌, Some, Err, length, map, find, set, slice_get, IsSome, IsNone, IfOk, IfErr, OnOk, OnErr};
 ghost use Rattle.std.specs.Option.{option_map};
@@ -8,18 +8,18 @@ ghost use Rattle.ddt_trie.specs.PrefixMap.{most_entries};
 ghost use Rattle.ddt_config.specs.Table.{Outline};
 ghost use Rattle.ddt_node.specs.laws.Changed.{at_prefix};
 ghost use Rattle.ddt_registrar.specs.Carried.{carried, carried_from};
-ghost use Rattle.ddt_registrar.specs.Judging.{judged, judged_at, site_of};
+ghost use Rattle.ddt_registrar.specs.Checks.{checked, checked_at, site_of};
 ghost use Rattle.ddt_registrar.specs.Sender.{sender_of};
 ghost use Rattle.ddt_registrar.specs.State.{Site};
 ghost use Rattle.ddt_registrar.specs.declared.refusal.NotAdded.TheVariants.{Twice, Full};
 ghost use Rattle.ddt_registrar.specs.Taking.{sites_after, after_all, IsNotifyFor, IsNotNotified, IsTaken, IsInPart, IsRefused, site_at, in_force};
 
-use crate::arrival::Arrival;
-use crate::judging::judge;
 use crate::key::Key;
 use crate::keyed_site::KeyedSite;
-use crate::ranking::Ranking;
+use crate::ranked_etrs::RankedEtrs;
+use crate::received_register::ReceivedRegister;
 use crate::refusal::{NotAdded, Refusal};
+use crate::register_checks::check;
 use ddt_map_register::RegisterRecord;
 use ddt_node::Server;
 use ddt_path::Prefix;
@@ -47,7 +47,7 @@ impl<M: PrefixMap<u32>> Model for Registrar<M> {
 }
 
 impl<M: PrefixMap<u32>> Registrar<M> {
-    /// A registrar of no site.
+    /// A registrar without sites.
     pub fn new(alloc: Global) -> Registrar<M>
         ensures { result ≡ [] }
     {
@@ -57,8 +57,8 @@ impl<M: PrefixMap<u32>> Registrar<M> {
         }
     }
 
-    /// Adds a site as the last one. Refused, and then nothing changes: if it has a site of that prefix (1), if it has
-    /// 1,048,576 sites (2), or if memory runs out (3).
+    /// Appends a site. Refused, and then nothing changes: if there is a site of that prefix (1), if there are 1,048,576
+    /// sites (2), or if memory runs out (3).
     pub fn add(&mut self, site: KeyedSite) -> Result<(), NotAdded>
         ensures added { OnOk result (self.new ≡ self.old ++ site ∷ []) }
         ensures refused { OnErr result (self.new ≡ self.old) }
@@ -86,14 +86,14 @@ impl<M: PrefixMap<u32>> Registrar<M> {
         }
     }
 
-    /// Its sites, in the order in which they were added.
+    /// The sites, in the order in which they were added.
     pub fn sites(&self) -> &[KeyedSite]
         ensures { result.now ≡ self.now }
     {
         self.sites.as_slice()
     }
 
-    /// The site of just this prefix.
+    /// The site of exactly this prefix.
     pub fn site(&self, prefix: Prefix) -> Option<&KeyedSite>
         ensures { option_map (λ s. s.now) result ≡ find (λ s. is_same_path s.prefix prefix) self.now }
     {
@@ -103,7 +103,7 @@ impl<M: PrefixMap<u32>> Registrar<M> {
         }
     }
 
-    /// Takes over what was registered for a site of its prefix before. It allocates nothing.
+    /// Carries over the state of a site before to the site of its prefix, if there is one. Allocates nothing.
     fn carry_one(&mut self, before: KeyedSite)
         ensures { self.new ≡ map (at_prefix (λ s. s.prefix) before.prefix (carried before)) self.old }
     {
@@ -113,10 +113,9 @@ impl<M: PrefixMap<u32>> Registrar<M> {
         }
     }
 
-    /// Takes over what was registered before its sites were read anew. A site that was there before has again: whether
-    /// an xTR has registered; the last nonces under the keys that there are; and the registrations under keys that are
-    /// still the same. Any other stays as it is. It allocates nothing. No server follows: `put_in_force` is to be
-    /// called then.
+    /// Carries over the registrations of the registrar before a reload. A site that was there before has again: whether
+    /// an xTR has registered; the last nonces under the keys that it has; and the registrations under keys that are
+    /// unchanged. Any other site is unchanged. Allocates nothing. No server is changed: call `put_in_force` afterwards.
     pub fn carry_over(&mut self, before: Registrar<M>)
         ensures { self.new ≡ map (carried_from before) self.old }
     {
@@ -125,9 +124,9 @@ impl<M: PrefixMap<u32>> Registrar<M> {
         }
     }
 
-    /// Has a server, which answers by some configuration, answer by the one in force: each site has its ETRs in force.
-    /// It allocates nothing.
-    pub fn put_in_force(&self, alloc: Global, ranking: &mut Ranking, server: &mut Server<M>)
+    /// Sets the ETRs of each site in a server to those in force, so that the server follows the registrar. Allocates
+    /// nothing.
+    pub fn put_in_force(&self, alloc: Global, ranking: &mut RankedEtrs, server: &mut Server<M>)
         ensures { server.new ≡ in_force self.now server.old }
     {
         for site in self.sites.as_slice() {
@@ -135,44 +134,48 @@ impl<M: PrefixMap<u32>> Registrar<M> {
         }
     }
 
-    /// The key under which a record of a Map-Register may be registered, or why it may not.
-    fn judge_one(
+    /// Checks a record of a Map-Register. Returns the key under which it may be registered, or why it may not.
+    fn check_record(
         &self,
-        arrival: &Arrival<'_, '_>,
+        arrival: &ReceivedRegister<'_, '_>,
         record: &RegisterRecord<'_>,
     ) -> Result<&Key, Refusal>
         ensures { IsReadAs (λ k. k.now) result
-            (judged_at arrival.now.message.now record.now (sender_of arrival.now.message.now.id arrival.now.from)
+            (checked_at arrival.now.message.now record.now (sender_of arrival.now.message.now.id arrival.now.from)
             (site_of record.now self.now)) }
     {
         match self.site(record.prefix()) {
-            Some(site) => judge(arrival.message, record, arrival.sender(), site),
+            Some(site) => check(arrival.message, record, arrival.sender(), site),
             None => Err(Refusal::NoSite),
         }
     }
 
-    /// The key under which a Map-Register is taken, that of its first record; or why it isn't.
-    fn judge(&self, arrival: &Arrival<'_, '_>) -> Result<&Key, Refusal>
+    /// Checks all records of a Map-Register. Returns the key of the first record, or the first refusal.
+    fn check(&self, arrival: &ReceivedRegister<'_, '_>) -> Result<&Key, Refusal>
         ensures { IsReadAs (λ k. k.now) result
-            (judged arrival.now.message.now (sender_of arrival.now.message.now.id arrival.now.from) self.now) }
+            (checked arrival.now.message.now (sender_of arrival.now.message.now.id arrival.now.from) self.now) }
     {
         let mut first = None;
         let mut rest = arrival.message.records();
         while let Some(record) = rest.next() {
-            let key = self.judge_one(arrival, &record)?;
+            let key = self.check_record(arrival, &record)?;
             first = Some(first.unwrap_or(key));
         }
         first.ok_or(Refusal::NoRecord)
     }
 
-    /// The Map-Notify for a Map-Register that is taken, none where the bit M is clear; or why it isn't taken.
-    fn notify(&self, alloc: Global, arrival: &Arrival<'_, '_>) -> Result<Option<Vec<u8>>, Refusal>
+    /// The Map-Notify for a Map-Register that is accepted, None if the bit M is clear; or why it is refused.
+    fn notify(
+        &self,
+        alloc: Global,
+        arrival: &ReceivedRegister<'_, '_>,
+    ) -> Result<Option<Vec<u8>>, Refusal>
         ensures told { IfOk result (λ notify. IsNotifyFor arrival.now.message.now
             (sender_of arrival.now.message.now.id arrival.now.from) self.now (option_map (λ v. v.items) notify)) }
         ensures refused { IfErr result (λ e. IsNotNotified arrival.now.message.now
             (sender_of arrival.now.message.now.id arrival.now.from) self.now e) }
     {
-        let key = self.judge(arrival)?;
+        let key = self.check(arrival)?;
         if arrival.message.head().want_notify {
             match arrival.message.notify(alloc, key.secret.as_slice()) {
                 Ok(notify) => Ok(Some(notify)),
@@ -183,13 +186,14 @@ impl<M: PrefixMap<u32>> Registrar<M> {
         }
     }
 
-    /// Changes the site of a record, and has the server follow. Where memory is refused, nothing changes.
+    /// Changes the site of a record, and the ETRs of that site in the server. Fails only if out of memory, and then
+    /// nothing changes.
     fn change_one(
         &mut self,
         alloc: Global,
         server: &mut Server<M>,
-        ranking: &mut Ranking,
-        arrival: &Arrival<'_, '_>,
+        ranking: &mut RankedEtrs,
+        arrival: &ReceivedRegister<'_, '_>,
         record: &RegisterRecord<'_>,
     ) -> Result<(), AllocError>
         ensures changed { OnOk result (self.new
@@ -209,13 +213,13 @@ impl<M: PrefixMap<u32>> Registrar<M> {
         Ok(())
     }
 
-    /// Changes the sites of all records in their order, and has the server follow. Where memory is refused, only the
-    /// first of them have changed their sites.
+    /// Changes the sites of all records in their order, and their ETRs in the server. Fails only if out of memory, and
+    /// then only the first records may have changed their sites.
     fn change_all(
         &mut self,
         alloc: Global,
         server: &mut Server<M>,
-        arrival: &Arrival<'_, '_>,
+        arrival: &ReceivedRegister<'_, '_>,
     ) -> Result<(), AllocError>
         ensures changed { OnOk result (self.new ≡ after_all arrival.now.moment arrival.now.message.now
             (sender_of arrival.now.message.now.id arrival.now.from) arrival.now.message.now.records self.old) }
@@ -223,7 +227,7 @@ impl<M: PrefixMap<u32>> Registrar<M> {
             (sender_of arrival.now.message.now.id arrival.now.from) self.old self.new) }
         ensures follows { (c : Outline) → server.old ≡ in_force self.old c → server.new ≡ in_force self.new c }
     {
-        let mut ranking = Ranking::new(alloc)?;
+        let mut ranking = RankedEtrs::new(alloc)?;
         let mut rest = arrival.message.records();
         while let Some(record) = rest.next() {
             self.change_one(alloc, server, &mut ranking, arrival, &record)?;
@@ -231,16 +235,17 @@ impl<M: PrefixMap<u32>> Registrar<M> {
         Ok(())
     }
 
-    /// Takes a Map-Register, which has each of its records registered for its xTR, or withdrawn where its TTL is 0, and
-    /// gives the Map-Notify for it, none where the bit M is clear. Refused, and then nothing changes, with the first
-    /// refusal of its records in their order; but where it may be registered and memory runs out, 7, the first of its
-    /// records may have changed their sites. The server follows in each case: where it answered by the configuration in
-    /// force, it still does.
+    /// Accepts a Map-Register: registers each of its records for its xTR, or withdraws it if its TTL is 0. Returns the
+    /// Map-Notify for it, None if the bit M is clear.
+    ///
+    /// Refused with the first refusal of its records in their order, and then nothing changes. But if it may be
+    /// registered and memory runs out (7), the first of its records may have changed their sites. In each case a server
+    /// that answered by the configuration in force still does.
     pub fn take(
         &mut self,
         alloc: Global,
         server: &mut Server<M>,
-        arrival: &Arrival<'_, '_>,
+        arrival: &ReceivedRegister<'_, '_>,
     ) -> Result<Option<Vec<u8>>, Refusal>
         ensures taken { IfOk result (λ notify. IsTaken arrival.now.moment arrival.now.message.now
             (sender_of arrival.now.message.now.id arrival.now.from) self.old self.new
@@ -256,12 +261,13 @@ impl<M: PrefixMap<u32>> Registrar<M> {
         }
     }
 
-    /// Takes away what is over at a moment from the site at a place, and has the server follow. It allocates nothing.
+    /// Removes the registrations that are over at a moment, in milliseconds, from the site at an index, and sets its
+    /// ETRs in the server. Allocates nothing.
     fn end_at(
         &mut self,
         alloc: Global,
         server: &mut Server<M>,
-        ranking: &mut Ranking,
+        ranking: &mut RankedEtrs,
         at: usize,
         now: u64,
     )
@@ -276,14 +282,14 @@ impl<M: PrefixMap<u32>> Registrar<M> {
         }
     }
 
-    /// Takes away what is over at a moment, in milliseconds, and has the server follow. Fails only if out of memory,
-    /// and then nothing changes: it is to be called again.
+    /// Removes the registrations that are over at a moment, in milliseconds, and sets the ETRs of their sites in the
+    /// server. Fails only if out of memory, and then nothing changes: call it again.
     pub fn end(&mut self, alloc: Global, server: &mut Server<M>, now: u64) -> Result<(), AllocError>
         ensures ended { OnOk result (self.new ≡ map (site_at now) self.old) }
         ensures unchanged { OnErr result (self.new ≡ self.old) }
         ensures follows { (c : Outline) → server.old ≡ in_force self.old c → server.new ≡ in_force self.new c }
     {
-        let mut ranking = Ranking::new(alloc)?;
+        let mut ranking = RankedEtrs::new(alloc)?;
         for at in 0..self.sites.len() {
             self.end_at(alloc, server, &mut ranking, at, now);
         }

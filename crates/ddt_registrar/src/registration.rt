@@ -1,4 +1,4 @@
-//! What an xTR has registered for a site, and the last nonce that it used.
+//! The registration of an xTR for a site, and the last nonce of the xTR.
 
 use crate::lists::Keyed;
 use crate::sender::{Sender, is_same_id};
@@ -13,9 +13,9 @@ pub struct Registration {
     /// The Key ID and the Algorithm ID of the key that its message named.
     pub key_id: u8,
     pub algorithm: u8,
-    /// Its ETRs with their priorities, as the message lists them; at most eight.
+    /// The ETRs with their priorities, in the order of the message; at most eight.
     pub etrs: Vec<Ranked>,
-    /// The moment, in milliseconds, from which it is over.
+    /// The moment at which it is over, in milliseconds.
     pub deadline: u64,
 }
 
@@ -43,8 +43,8 @@ impl Keyed for Registration {
     }
 }
 
-/// The nonce of the last message that was taken from an xTR under a key whose nonces have to increase. It outlives the
-/// registration.
+/// The nonce of the last message that was accepted from an xTR under a key whose nonces have to increase. It outlives
+/// the registration.
 #[derive(Clone, Copy, Debug)]
 pub struct LastNonce {
     /// The Key ID and the Algorithm ID of the key.

@@ -5,3 +5,4 @@ pub mod Page
 pub mod Sections
 pub mod Tables
 pub mod laws
+pub mod Pictures

@@ -4,8 +4,8 @@ use Rattle.std.specs.List.{filter, slice_split, starts_with}
 use Rattle.std.specs.Str.{bytes_eq}
 use Rattle.ddt_report.specs.declared.tables.Table.{Table}
 use Rattle.ddt_report.specs.declared.tables.Table.TheVariants.{Summary, Sites, Zones, Groups, Blocks, Caches, Steps}
-use Rattle.ddt_report.specs.declared.marks.Mark.{Mark}
-use Rattle.ddt_report.specs.declared.marks.Mark.TheVariants.{Plain, Added, Removed, Changed, Step, Wait}
+use Rattle.ddt_report.specs.declared.row_marks.Mark.{Mark}
+use Rattle.ddt_report.specs.declared.row_marks.Mark.TheVariants.{Plain, Added, Removed, Changed, Step, Wait}
 
 -- a line begins with this
 abbrev pub begins : List ℕ → List ℕ → Bool

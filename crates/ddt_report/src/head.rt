@@ -5,7 +5,7 @@ ghost use Rattle.ddt_report.specs.Head.{opening_text, style_text, title_text};
 
 use std::alloc::AllocError;
 
-/// Where the document begins. Browsers are told to load nothing and to run no script.
+/// The beginning of the document. Its policy allows browsers to load nothing and to run no script.
 const OPENING: &[u8] = b"<!DOCTYPE html>
 <html lang='en'>
 <head>
@@ -16,7 +16,7 @@ const OPENING: &[u8] = b"<!DOCTYPE html>
 <style>
 ";
 
-/// How it is set, on a light screen and on a dark one.
+/// Its style, for light screens and for dark ones.
 const STYLE: &[u8] = b":root{color-scheme:light dark}
 :root{--ink:#1b1b1b;--paper:#fff;--line:#c8c8c8;--soft:#5a5a5a;--head:#f0f0f0}
 :root{--added:#d9f2dc;--removed:#fbdcdc;--changed:#fdf0cf;--wait:#e3e8f4}
@@ -42,7 +42,7 @@ td,th{border:1px solid var(--line);padding:.25em .7em;vertical-align:top}
 .legend span{padding:.1em .6em;border:1px solid var(--line);margin-right:.5em;color:var(--ink)}
 ";
 
-/// Its title.
+/// Its heading.
 const TITLE: &[u8] = b"</style>
 </head>
 <body>

@@ -1,4 +1,4 @@
-//! Texts in HTML. What appends fails only if out of memory.
+//! Texts in HTML. All calls fail only if out of memory.
 
 ghost use Rattle.std.specs.Prelude.{◌≡◌, ◌++◌, OnOk};
 ghost use Rattle.std.specs.List.{flat_map};
@@ -7,14 +7,14 @@ ghost use Rattle.ddt_report.specs.Html.{cell_text, escaped};
 use ddt_path::Listed;
 use std::alloc::AllocError;
 
-/// Appends a text that is HTML.
+/// Appends HTML as it is.
 pub(crate) fn push_text(html: &mut Vec<u8>, text: &[u8]) -> Result<(), AllocError>
     ensures { OnOk result (html.new.items ≡ html.old.items ++ text.now) }
 {
     html.extend_from_slice(text)
 }
 
-/// Appends a text as HTML has it.
+/// Appends a text, with character references for the characters that HTML reserves.
 pub(crate) fn push_escaped(html: &mut Vec<u8>, text: &[u8]) -> Result<(), AllocError>
     ensures { OnOk result (html.new.items ≡ html.old.items ++ escaped text.now) }
 {

@@ -1,16 +1,19 @@
-//! A page of HTML for those who review a change of a register: what `ddtplan diff` and `ddtplan rollout` write, in
-//! tables, and a picture of the zones. It has no script, and loads nothing.
+//! A page of HTML for the review of a change of a register: the lines of `ddtplan diff` and `ddtplan rollout` in
+//! tables, and a picture of the zones. It has no script, and loads nothing. Also pictures of registers and lookups, as
+//! SVG.
 //!
-//! In reading order: `page`, `head`, `sections`, with `tables`, `marks`, `parts` and `html` below it; `laws`.
-//! Tests: ddt_review_tests/report.
+//! In reading order: `page`, `head`, `sections`, with `tables`, `row_marks`, `lines_and_fields` and `html` below it;
+//! `laws`; `pictures`.
+//! Tests: ddt_review_tests/report and pictures.
 #![tactic(auto)]
 
 mod head;
 mod html;
 mod laws;
-mod marks;
+mod lines_and_fields;
 mod page;
-mod parts;
+pub mod pictures;
+mod row_marks;
 mod sections;
 mod tables;
 

@@ -1,4 +1,4 @@
-//! The page. What appends fails only if out of memory.
+//! The page. All calls fail only if out of memory.
 
 ghost use Rattle.std.specs.Prelude.{◌≡◌, ◌++◌, IfOk, OnOk};
 ghost use Rattle.ddt_report.specs.Page.{causes_text, closing_text, effects_text, figure_text, page_text, paths_text, picture_text, picture_title as picture_title_of};
@@ -10,12 +10,12 @@ use crate::tables::Table;
 use ddt_path::Listed;
 use std::alloc::{AllocError, Global};
 
-/// What a page is made of.
+/// The texts that a page is made of.
 #[derive(Debug, Drop)]
 pub struct Report {
     /// The path of the register that is in force.
     pub before: Listed<u8>,
-    /// The path of the register that is to come into force.
+    /// The path of the register that is to replace it.
     pub after: Listed<u8>,
     /// The lines of `ddtplan diff`.
     pub changes: Listed<u8>,
@@ -25,9 +25,9 @@ pub struct Report {
     pub picture: Listed<u8>,
 }
 
-/// The page: the summary, the picture, the sites, zones and groups that differ, the blocks that are answered otherwise,
-/// the steps of the rollout, and what caches keep. Each of its tables has at most 1,000 rows, and says how many more
-/// there are. Each field of a line is escaped; the picture stands as it is. Fails only if out of memory.
+/// The page: the summary, the picture, the sites, zones and groups that differ, the blocks that are answered
+/// differently, the steps of the rollout, and what caches keep. Each of its tables has at most 1,000 rows, and a line
+/// with the number of rows left out. Each field of a line is escaped; the picture is not. Fails only if out of memory.
 #[tactic(auto, unfolding(crate::specs::Page::page_text))]
 pub fn report_page(alloc: Global, report: &Report) -> Result<Vec<u8>, AllocError>
     ensures { IfOk result (λ page. page.items ≡ page_text report.now) }
@@ -99,7 +99,7 @@ fn push_causes(html: &mut Vec<u8>, changes: &[u8]) -> Result<(), AllocError>
     push_section(html, Table::Groups, changes)
 }
 
-/// Appends what that changes for those who ask.
+/// Appends what changes for resolvers: the blocks, the steps of the rollout, and the caches.
 #[tactic(auto, unfolding(crate::specs::Page::effects_text))]
 fn push_effects(html: &mut Vec<u8>, report: &Report) -> Result<(), AllocError>
     ensures { OnOk result (html.new.items ≡ html.old.items ++ effects_text report.now) }

@@ -1,20 +1,20 @@
-//! The sections of a page. What appends fails only if out of memory.
+//! The sections of a page. All calls fail only if out of memory.
 
 ghost use Rattle.std.specs.Prelude.{◌≡◌, ◌++◌, OnOk, length, take, decimal};
 ghost use Rattle.std.specs.List.{flat_map};
 ghost use Rattle.ddt_report.specs.Sections.{back_text, columns_line, heading_text, left_out_line, left_out_text, row_text, rows_text, section_text, table_text};
 
 use crate::html::{push_cells, push_text};
-use crate::marks::mark_of;
-use crate::parts::{fields_of, rows_of};
+use crate::lines_and_fields::{fields_of, rows_of};
+use crate::row_marks::mark_of;
 use crate::tables::Table;
 use ddt_path::Listed;
 use std::alloc::AllocError;
 
-/// How many rows a table has at most.
+/// The most rows of a table.
 const MOST_ROWS: usize = 1000;
 
-/// Appends a table's section, with its rows in a text of lines.
+/// Appends a table's section, with the lines of a text that are its rows.
 #[tactic(auto, unfolding(crate::specs::Sections::section_text))]
 pub(crate) fn push_section(html: &mut Vec<u8>, table: Table, text: &[u8]) -> Result<(), AllocError>
     ensures { OnOk result (html.new.items ≡ html.old.items ++ section_text table text.now) }
@@ -34,7 +34,7 @@ pub(crate) fn push_heading(html: &mut Vec<u8>, title: &str) -> Result<(), AllocE
     push_text(html, b"</h2>\n")
 }
 
-/// Appends a table with these rows, or that there are none.
+/// Appends a table with these rows, or a line if there are none.
 fn push_rows(html: &mut Vec<u8>, table: Table, rows: &[Listed<u8>]) -> Result<(), AllocError>
     ensures { OnOk result (html.new.items ≡ html.old.items ++ rows_text table rows.now) }
 {
@@ -45,7 +45,7 @@ fn push_rows(html: &mut Vec<u8>, table: Table, rows: &[Listed<u8>]) -> Result<()
     }
 }
 
-/// Appends a table of the first rows, and how many are left out.
+/// Appends a table of the first rows, and the number of rows left out.
 #[tactic(auto, unfolding(crate::specs::Sections::table_text))]
 fn push_table(html: &mut Vec<u8>, table: Table, rows: &[Listed<u8>]) -> Result<(), AllocError>
     ensures { OnOk result (html.new.items ≡ html.old.items ++ table_text table rows.now) }
@@ -107,7 +107,7 @@ fn push_row(html: &mut Vec<u8>, table: Table, line: &[u8]) -> Result<(), AllocEr
     push_text(html, b"</tr>\n")
 }
 
-/// Appends how many of so many rows are left out, if any are.
+/// Appends the number of rows left out of `rows`, if any are.
 fn push_left_out(html: &mut Vec<u8>, table: Table, rows: usize) -> Result<(), AllocError>
     ensures { OnOk result (html.new.items ≡ html.old.items ++ left_out_text table rows) }
 {
@@ -118,7 +118,7 @@ fn push_left_out(html: &mut Vec<u8>, table: Table, rows: usize) -> Result<(), Al
     }
 }
 
-/// Appends that so many rows are left out.
+/// Appends the line with the number of rows left out.
 #[tactic(auto, unfolding(crate::specs::Sections::left_out_line))]
 fn push_left_out_line(html: &mut Vec<u8>, table: Table, count: usize) -> Result<(), AllocError>
     ensures { OnOk result (html.new.items ≡ html.old.items ++ left_out_line table count) }

@@ -4,10 +4,10 @@ ghost use Rattle.std.specs.Prelude.{◌≡◌};
 ghost use Rattle.ddt_report.specs.Sections.{columns_of, command_of, title_of};
 ghost use Rattle.ddt_report.specs.Tables.{has_row as has_row_of};
 
-/// What a table has rows of.
+/// A table of the page.
 #[derive(Clone, Copy, Debug, PartialEq, Eq)]
 pub(crate) enum Table {
-    /// How many identifiers, sites and zones change.
+    /// The numbers of identifiers, sites and zones that change.
     Summary,
     /// Sites that differ.
     Sites,
@@ -15,7 +15,7 @@ pub(crate) enum Table {
     Zones,
     /// Groups that differ, and those whose configuration does.
     Groups,
-    /// Blocks that are answered otherwise.
+    /// Blocks that are answered differently.
     Blocks,
     /// What caches keep, and for how long.
     Caches,
@@ -24,7 +24,7 @@ pub(crate) enum Table {
 }
 
 impl Table {
-    /// Whether it has a row of this line.
+    /// Whether this line is one of its rows.
     pub(crate) fn has_row(self, line: &[u8]) -> bool
         ensures { result ≡ has_row_of self line.now }
     {

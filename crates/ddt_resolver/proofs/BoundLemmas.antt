@@ -20,7 +20,7 @@ use Rattle.ddt_resolver.specs.State.{State, numbered, opening, referred, passed_
 use Rattle.ddt_path.specs.Actions.{IsReferral}
 use Rattle.ddt_resolver.specs.Records.{IsBelow, start_at}
 use Rattle.ddt_resolver.specs.AskStep as ask
-use Rattle.ddt_resolver.specs.TakeUp.{IsTaken}
+use Rattle.ddt_resolver.specs.MatchReply.{IsTaken}
 use Rattle.ddt_resolver.specs.Act as act
 use Rattle.ddt_resolver.specs.Order.{IsLookup, IsStateInOrder}
 use Rattle.ddt_resolver.specs.Bound.{room, again, measure, StartsWithin, ComesNearer, GoesDown}
@@ -37,16 +37,16 @@ again_most : (n : ℕ) (start : Option (List ℕ)) → again n start ≤ 8 * (n 
 again_most n None = omega arith
 again_most n (Some p) = omega arith
 
-referred_lower : (l : Pending) (rec : ReferralRecord) → l.place < length l.servers → length rec.servers ≤ 8 → IsBelow l.saved rec.prefix → length rec.prefix ≤ length (xeid_path l.x) → measure (referred l rec) < measure l
-referred_lower l rec place few below fits = omega (arith, room_falls (length (xeid_path l.x)) l.saved rec.prefix below fits)
+referred_lower : (l : Pending) (rec : ReferralRecord) → l.server_index < length l.servers → length rec.servers ≤ 8 → IsBelow l.last_referral rec.prefix → length rec.prefix ≤ length (xeid_path l.x) → measure (referred l rec) < measure l
+referred_lower l rec place few below fits = omega (arith, room_falls (length (xeid_path l.x)) l.last_referral rec.prefix below fits)
 
-passed_lower : (l : Pending) (rec : ReferralRecord) → l.place < length l.servers → measure (passed_on l rec) < measure l
+passed_lower : (l : Pending) (rec : ReferralRecord) → l.server_index < length l.servers → measure (passed_on l rec) < measure l
 passed_lower l rec place = omega arith
 
-restarted_lower : (s : State) (l : Pending) (p : List ℕ) → l.place < length l.servers → length s.known.roots ≤ 8 → l.start ≡ Some p → measure (started_over s l) < measure l
+restarted_lower : (s : State) (l : Pending) (p : List ℕ) → l.server_index < length l.servers → length s.known.roots ≤ 8 → l.start_entry ≡ Some p → measure (started_over s l) < measure l
 restarted_lower s l p place few at =
     let n = length (xeid_path l.x) in
-    let e : again n l.start ≡ 8 * (n + 2) = ap (again n) at in
+    let e : again n l.start_entry ≡ 8 * (n + 2) = ap (again n) at in
     omega arith
 
 -- ---- a reply
@@ -62,7 +62,7 @@ module _ {s : State} (o : IsStateInOrder s) {source : Locator} {bytes : List ℕ
   told_again : (v : Message) → Spells bytes v → message_record v ≡ rec
   told_again v spells = let told = is.in_time.from_server.reply.tells in ap message_record (messages_are_read.one bytes v told.message spells told.spells) ∙ told.same_record
 
-  goes : (new : State) {h : Heard} (m : Pending) (d : Outgoing) → new.pending ≡ insert s.pending t (numbered s m) → measure m < measure l → (IsReferral rec.action → IsBelow l.saved rec.prefix) → h ≡ heard.Followed t d
+  goes : (new : State) {h : Heard} (m : Pending) (d : Outgoing) → new.pending ≡ insert s.pending t (numbered s m) → measure m < measure l → (IsReferral rec.action → IsBelow l.last_referral rec.prefix) → h ≡ heard.Followed t d
       → ComesNearer s new h × GoesDown s bytes h
   goes new m d put less below followed = rw followed (
     (λ a b found after.

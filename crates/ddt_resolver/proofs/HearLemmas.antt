@@ -12,7 +12,7 @@ use Rattle.ddt_resolver.specs.Acting.{SendsOn, followed, used_up as spent}
 use Rattle.ddt_resolver.specs.Order.{IsLookup}
 
 -- one that started at an entry hasn't started over
-pub may_start_over : (l : Pending) (p : List ℕ) → IsLookup l → l.start ≡ Some p → MayStartOver l p
+pub may_start_over : (l : Pending) (p : List ℕ) → IsLookup l → l.start_entry ≡ Some p → MayStartOver l p
 may_start_over l p is at = record { start = at; first = by l.restarted refl }
   where
     by : (b : Bool) → l.restarted ≡ b → l.restarted ≡ false

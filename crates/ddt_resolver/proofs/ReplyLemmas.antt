@@ -10,7 +10,7 @@ use Rattle.ddt_resolver.specs.declared.pending.Pending.{Pending}
 use Rattle.ddt_resolver.specs.declared.results.Heard.{Heard}
 use Rattle.ddt_resolver.specs.State.{State, server}
 use Rattle.ddt_resolver.specs.Records.{IsAbout, NamesServer}
-use Rattle.ddt_resolver.specs.TakeUp.{TellsReply, IsReplyTo, IsBeforeDeadline, Ignores, undecodable, unknown_nonce, wrong_source, late, not_covering, no_servers}
+use Rattle.ddt_resolver.specs.MatchReply.{TellsReply, IsReplyTo, IsBeforeDeadline, Ignores, undecodable, unknown_nonce, wrong_source, late, not_covering, no_servers}
 use Rattle.ddt_resolver.specs.Act.{Act, HearStep, ignored, taken}
 use Rattle.ddt_resolver.specs.Order.{IsWaiting, IsStateInOrder}
 use Rattle.ddt_resolver.proofs.StateLemmas.{next_absent}

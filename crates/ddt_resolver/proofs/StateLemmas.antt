@@ -13,7 +13,7 @@ use Rattle.ddt_resolver.specs.declared.pending.Pending.{Pending}
 use Rattle.ddt_resolver.specs.declared.requests.Change.{Change}
 use Rattle.ddt_resolver.specs.declared.requests.Change.TheVariants.{Keep, Save, Forget}
 use Rattle.ddt_resolver.specs.State.{State, last_nonce, most_pending, fresh, numbered, stored, changed}
-use Rattle.ddt_resolver.specs.Waiting.{Waiting}
+use Rattle.ddt_resolver.specs.TicketedLookup.{TicketedLookup}
 use Rattle.ddt_resolver.specs.Table.{Held, HasNonce, IsNext}
 use Rattle.ddt_resolver.specs.Acting.{IsSmall}
 use Rattle.ddt_resolver.specs.Order.{IsLookup, IsWaiting, IsStateInOrder}
@@ -67,7 +67,7 @@ module _ (s : State) (o : IsStateInOrder s) where
   })
 
   -- a lookup is taken out, or none is
-  pub order_taken : (p : FinMap nat_cmp Pending) (next : ℕ) (taken : Option Waiting) → IfSome taken (λ w. p ≡ remove s.pending w.ticket) → IfNone taken (p ≡ s.pending) → next ≡ s.next
+  pub order_taken : (p : FinMap nat_cmp Pending) (next : ℕ) (taken : Option TicketedLookup) → IfSome taken (λ w. p ≡ remove s.pending w.ticket) → IfNone taken (p ≡ s.pending) → next ≡ s.next
       → IsStateInOrder (record { known = s.known; me = s.me; next = next; pending = p })
   order_taken p next None gone kept same = rw (same, kept) o
   order_taken p next (Some w) gone kept same = rw (same, gone) (order_dropped s w.ticket o)

@@ -13,7 +13,7 @@ use Rattle.std.proofs.lemmas.Bool.{cases_eq}
 use Rattle.slab.specs.Slab.{Slab, get, slab_len, entries, entries_from, Updates}
 use Rattle.slab.proofs.SlabLemmas.{Contains-cons, Contains-cons_cases, Contains-entries}
 use Rattle.ddt_resolver.specs.declared.pending.Pending.{Pending}
-use Rattle.ddt_resolver.specs.Waiting.{Waiting}
+use Rattle.ddt_resolver.specs.TicketedLookup.{TicketedLookup}
 use Rattle.ddt_resolver.specs.Table.{ticketed, by_ticket, Held, IsTable, IsUnknown, HasNonce}
 use Rattle.ddt_resolver.specs.laws.NumberMap.{found_insert, found_remove, get-insert_same, get-insert_other, get-remove_same, get-remove_other, not_same, same_numbers}
 
@@ -39,7 +39,7 @@ on_some (Some v) w h e = h
 
 -- ---- the map of a slab's lookups
 
-abbrev pub under : ℕ → Pending → Waiting
+abbrev pub under : ℕ → Pending → TicketedLookup
 under t l = record { ticket = t; lookup = l }
 
 same_find : {V : Type 0} (q : ℕ) (es : List (ℕ × V)) → find nat_cmp q es ≡ lookup (◌==◌ q) es
@@ -50,7 +50,7 @@ at_map : (es : List (ℕ × Pending)) (q : ℕ) → finite.get (from_entries {R 
 at_map es q = get-from_entries nat_cmp_total es q ∙ same_find q es
 
 -- what is found under a ticket is an entry's
-listed : (t : ℕ) (l : Pending) (es : List (ℕ × Waiting)) → lookup (◌==◌ t) (map ticketed es) ≡ Some l → (e : ℕ × Waiting) × Contains es e × (e.1 ≡ under t l)
+listed : (t : ℕ) (l : Pending) (es : List (ℕ × TicketedLookup)) → lookup (◌==◌ t) (map ticketed es) ≡ Some l → (e : ℕ × TicketedLookup) × Contains es e × (e.1 ≡ under t l)
 listed t l [] found = cc
 listed t l (e ∷ es) found = elim (cases_eq t e.1.ticket) [
   | inl same ↦
@@ -60,7 +60,7 @@ listed t l (e ∷ es) found = elim (cases_eq t e.1.ticket) [
 ]
 
 -- an entry is found under its ticket, if all entries of this ticket have one lookup
-shown : (e : ℕ × Waiting) (es : List (ℕ × Waiting)) → Contains es e → ((d : ℕ × Waiting) → Contains es d → d.1.ticket ≡ e.1.ticket → d.1.lookup ≡ e.1.lookup) → lookup (◌==◌ e.1.ticket) (map ticketed es) ≡ Some e.1.lookup
+shown : (e : ℕ × TicketedLookup) (es : List (ℕ × TicketedLookup)) → Contains es e → ((d : ℕ × TicketedLookup) → Contains es d → d.1.ticket ≡ e.1.ticket → d.1.lookup ≡ e.1.lookup) → lookup (◌==◌ e.1.ticket) (map ticketed es) ≡ Some e.1.lookup
 shown e [] there one = absurd (omega (arith, there.1))
 shown e (d ∷ es) there one = elim (cases_eq e.1.ticket d.1.ticket) [
   | inl same ↦ rw (eq-eqb e.1.ticket d.1.ticket same) (ap Some (one d (0, omega arith, refl) (sym same)))
@@ -72,48 +72,48 @@ shown e (d ∷ es) there one = elim (cases_eq e.1.ticket d.1.ticket) [
 ]
 
 -- no two slots have one ticket
-abbrev AreApart : Slab Waiting → Type 0
-AreApart s = (i j : ℕ) (v w : Waiting) → get s i ≡ Some v → get s j ≡ Some w → v.ticket ≡ w.ticket → i ≡ j
+abbrev AreApart : Slab TicketedLookup → Type 0
+AreApart s = (i j : ℕ) (v w : TicketedLookup) → get s i ≡ Some v → get s j ≡ Some w → v.ticket ≡ w.ticket → i ≡ j
 
 -- what is found under a ticket stands in a slot
-found_in : (s : Slab Waiting) (t : ℕ) (l : Pending) → finite.get (by_ticket s) t ≡ Some l → (slot : ℕ) × (get s slot ≡ Some (under t l))
+found_in : (s : Slab TicketedLookup) (t : ℕ) (l : Pending) → finite.get (by_ticket s) t ≡ Some l → (slot : ℕ) × (get s slot ≡ Some (under t l))
 found_in s t l found =
     let e = listed t l (entries s) (sym (at_map (map ticketed (entries s)) t) ∙ found) in
     (e.0.0, (Contains-entries s e.0.0 e.0.1).0 e.1 ∙ ap Some e.2)
 
 -- what stands in a slot is found under its ticket
-is_shown : (s : Slab Waiting) → AreApart s → (slot : ℕ) (w : Waiting) → get s slot ≡ Some w → finite.get (by_ticket s) w.ticket ≡ Some w.lookup
+is_shown : (s : Slab TicketedLookup) → AreApart s → (slot : ℕ) (w : TicketedLookup) → get s slot ≡ Some w → finite.get (by_ticket s) w.ticket ≡ Some w.lookup
 is_shown s apart slot w here =
     at_map (map ticketed (entries s)) w.ticket
     ∙ shown (slot, w) (entries s) ((Contains-entries s slot w).1 here) (λ d there same.
     let in_d : get s d.0 ≡ Some d.1 = (Contains-entries s d.0 d.1).0 there in
     let one : slot ≡ d.0 = apart slot d.0 w d.1 here in_d (sym same) in
-    ap (λ (x : Waiting). x.lookup) (same_Some d.1 w (sym in_d ∙ ap (get s) (sym one) ∙ here)))
+    ap (λ (x : TicketedLookup). x.lookup) (same_Some d.1 w (sym in_d ∙ ap (get s) (sym one) ∙ here)))
 
-absent : (s : Slab Waiting) (t : ℕ) → ((slot : ℕ) (w : Waiting) → get s slot ≡ Some w → w.ticket ≢ t) → finite.get (by_ticket s) t ≡ None
+absent : (s : Slab TicketedLookup) (t : ℕ) → ((slot : ℕ) (w : TicketedLookup) → get s slot ≡ Some w → w.ticket ≢ t) → finite.get (by_ticket s) t ≡ None
 absent s t none = holds_none _ (λ l e. let j = found_in s t l e in none j.0 (under t l) j.1 refl)
 
 -- ---- a lookup is put into an empty slot
 
-pub record IsPut (s n : Slab Waiting) (f g : ℕ → Option ℕ) (next k : ℕ) (w : Waiting) : Type 0 where
+pub record IsPut (s n : Slab TicketedLookup) (f g : ℕ → Option ℕ) (next k : ℕ) (w : TicketedLookup) : Type 0 where
   pub is : IsTable f (get s) next
   pub updates : Updates s n k (Some w)
   pub vacant : get s k ≡ None
   pub nonce : w.lookup.nonce ≡ next
   pub here : g next ≡ Some k
   pub others : (q : ℕ) → q ≢ next → g q ≡ f q
-  pub latest : (j : ℕ) (v : Waiting) → get s j ≡ Some v → v.lookup.deadline ≤ w.lookup.deadline
-  pub fresh : (j : ℕ) (v : Waiting) → get s j ≡ Some v → v.ticket ≢ w.ticket
+  pub latest : (j : ℕ) (v : TicketedLookup) → get s j ≡ Some v → v.lookup.deadline ≤ w.lookup.deadline
+  pub fresh : (j : ℕ) (v : TicketedLookup) → get s j ≡ Some v → v.ticket ≢ w.ticket
 
-module _ {s n : Slab Waiting} {f g : ℕ → Option ℕ} {next k : ℕ} {w : Waiting} (p : IsPut s n f g next k w) where
+module _ {s n : Slab TicketedLookup} {f g : ℕ → Option ℕ} {next k : ℕ} {w : TicketedLookup} (p : IsPut s n f g next k w) where
   -- what stands in a slot afterwards was put there, or stood there before
-  put_or_before : (j : ℕ) (v : Waiting) → get n j ≡ Some v → ((j ≡ k) × (w ≡ v)) ⊎ ((j ≢ k) × (get s j ≡ Some v))
+  put_or_before : (j : ℕ) (v : TicketedLookup) → get n j ≡ Some v → ((j ≡ k) × (w ≡ v)) ⊎ ((j ≢ k) × (get s j ≡ Some v))
   put_or_before j v here = elim (cases_eq j k) [
     | inl same ↦ inl (same, cc p.updates.changed)
     | inr other ↦ inr (other, sym (p.updates.others j other) ∙ here)
   ]
 
-  stays_in : (j : ℕ) (v : Waiting) → get s j ≡ Some v → get n j ≡ Some v
+  stays_in : (j : ℕ) (v : TicketedLookup) → get s j ≡ Some v → get n j ≡ Some v
   stays_in j v here = p.updates.others j (λ same. cc p.vacant) ∙ here
 
   put_apart : AreApart n
@@ -146,10 +146,10 @@ module _ {s n : Slab Waiting} {f g : ℕ → Option ℕ} {next k : ℕ} {w : Wai
     ];
   }
     where
-      nonce_of : (v : Waiting) → w ≡ v → v.lookup.nonce ≡ next
+      nonce_of : (v : TicketedLookup) → w ≡ v → v.lookup.nonce ≡ next
       nonce_of v same = cc
 
-      put_nonce : (v : Waiting) → w ≡ v → v.lookup.nonce < next + 1
+      put_nonce : (v : TicketedLookup) → w ≡ v → v.lookup.nonce < next + 1
       put_nonce v same = omega (arith, nonce_of v same)
 
   pub put_map : by_ticket n ≡ insert (by_ticket s) w.ticket w.lookup
@@ -159,7 +159,7 @@ module _ {s n : Slab Waiting} {f g : ℕ → Option ℕ} {next k : ℕ} {w : Wai
       there t l found =
           let j = found_in n t l found in
           elim (put_or_before j.0 (under t l) j.1) [
-            | inl a ↦ subst (λ (y : Waiting). finite.get (insert (by_ticket s) w.ticket w.lookup) y.ticket ≡ Some y.lookup) a.1 (get-insert_same (by_ticket s) w.ticket w.lookup)
+            | inl a ↦ subst (λ (y : TicketedLookup). finite.get (insert (by_ticket s) w.ticket w.lookup) y.ticket ≡ Some y.lookup) a.1 (get-insert_same (by_ticket s) w.ticket w.lookup)
             | inr a ↦ get-insert_other (by_ticket s) w.ticket w.lookup t (p.fresh j.0 (under t l) a.1) ∙ is_shown s p.is.tickets j.0 (under t l) a.1
           ]
 
@@ -177,9 +177,9 @@ module _ {s n : Slab Waiting} {f g : ℕ → Option ℕ} {next k : ℕ} {w : Wai
 
 -- ---- a lookup is taken out of its slot
 
-module _ {s n : Slab Waiting} {k : ℕ} {w : Waiting} (u : Updates s n k None) (there : get s k ≡ Some w) {f : ℕ → Option ℕ} {next : ℕ} (is : IsTable f (get s) next) where
+module _ {s n : Slab TicketedLookup} {k : ℕ} {w : TicketedLookup} (u : Updates s n k None) (there : get s k ≡ Some w) {f : ℕ → Option ℕ} {next : ℕ} (is : IsTable f (get s) next) where
   -- what stands in a slot afterwards stood there before
-  before : (j : ℕ) (v : Waiting) → get n j ≡ Some v → (j ≢ k) × (get s j ≡ Some v)
+  before : (j : ℕ) (v : TicketedLookup) → get n j ≡ Some v → (j ≢ k) × (get s j ≡ Some v)
   before j v here = elim (cases_eq j k) [ inl same ↦ cc u.changed | inr other ↦ (other, sym (u.others j other) ∙ here) ]
 
   taken_apart : AreApart n
@@ -217,7 +217,7 @@ module _ {s n : Slab Waiting} {k : ℕ} {w : Waiting} (u : Updates s n k None) (
           let r = found_remove (by_ticket s) w.ticket t l found in
           let j = found_in s t l r.1 in
           let own = λ (same : j.0 ≡ k). same_Some (under t l) w (sym j.1 ∙ ap (get s) same ∙ there) in
-          is_shown n taken_apart j.0 (under t l) (u.others j.0 (λ same. r.0 (ap (λ (y : Waiting). y.ticket) (own same))) ∙ j.1)
+          is_shown n taken_apart j.0 (under t l) (u.others j.0 (λ same. r.0 (ap (λ (y : TicketedLookup). y.ticket) (own same))) ∙ j.1)
 
   pub taken_count : len (by_ticket s) ≡ slab_len s → slab_len n + 1 ≡ slab_len s → len (by_ticket n) ≡ slab_len n
   taken_count was less =
@@ -227,7 +227,7 @@ module _ {s n : Slab Waiting} {k : ℕ} {w : Waiting} (u : Updates s n k None) (
 
 -- ---- no lookup at all
 
-pub no_table : (s : Slab Waiting) (f : ℕ → Option ℕ) (next : ℕ) → s.slots ≡ [] → ((q : ℕ) → f q ≡ None) → IsTable f (get s) next
+pub no_table : (s : Slab TicketedLookup) (f : ℕ → Option ℕ) (next : ℕ) → s.slots ≡ [] → ((q : ℕ) → f q ≡ None) → IsTable f (get s) next
 no_table s f next empty_slots none = record {
   noted = λ j v at. absurd (nothing j v at);
   held = λ q slot found below. cc (none q);
@@ -237,22 +237,22 @@ no_table s f next empty_slots none = record {
   rising = λ i j v w a b less. absurd (nothing i v a);
 }
   where
-    nothing : (j : ℕ) (v : Waiting) → get s j ≡ Some v → ⊥
-    nothing j v at = none-some v (sym (ap (λ (xs : List (Option Waiting)). slice_index_or xs j None) empty_slots) ∙ at)
+    nothing : (j : ℕ) (v : TicketedLookup) → get s j ≡ Some v → ⊥
+    nothing j v at = none-some v (sym (ap (λ (xs : List (Option TicketedLookup)). slice_index_or xs j None) empty_slots) ∙ at)
 
 pub nothing_at : (m : BTreeMap ℕ ℕ) → m.entries ≡ [] → (q : ℕ) → btree.get nat_cmp m q ≡ None
 nothing_at m none q = ap (λ (es : List (ℕ × ℕ)). lookup (is_at (nat_cmp q)) es) none
 
-pub no_count : (s : Slab Waiting) → s.slots ≡ [] → len (by_ticket s) ≡ slab_len s
+pub no_count : (s : Slab TicketedLookup) → s.slots ≡ [] → len (by_ticket s) ≡ slab_len s
 no_count s none =
-    ap (λ (es : List (Option Waiting)). len (from_entries {R = nat_cmp} (map ticketed (entries_from 0 es)))) none
-    ∙ len-empty nat_cmp Pending ∙ ap (λ (es : List (Option Waiting)). count_by is_some es) (sym none)
+    ap (λ (es : List (Option TicketedLookup)). len (from_entries {R = nat_cmp} (map ticketed (entries_from 0 es)))) none
+    ∙ len-empty nat_cmp Pending ∙ ap (λ (es : List (Option TicketedLookup)). count_by is_some es) (sym none)
 
 -- ---- a table and the map that contracts see
 
-module _ (s : Slab Waiting) {f : ℕ → Option ℕ} {next : ℕ} (inside : IsTable f (get s) next × (len (by_ticket s) ≡ slab_len s)) {spare : ℕ} {is_ready : Bool} {h : Held}
+module _ (s : Slab TicketedLookup) {f : ℕ → Option ℕ} {next : ℕ} (inside : IsTable f (get s) next × (len (by_ticket s) ≡ slab_len s)) {spare : ℕ} {is_ready : Bool} {h : Held}
     (view : ◌≡◌ {A = Held} (record { lookups = by_ticket s; next = next; spare = spare; is_ready = is_ready }) h) where
-  pub in_map : (slot : ℕ) (w : Waiting) → get s slot ≡ Some w → finite.get h.lookups w.ticket ≡ Some w.lookup
+  pub in_map : (slot : ℕ) (w : TicketedLookup) → get s slot ≡ Some w → finite.get h.lookups w.ticket ≡ Some w.lookup
   in_map slot w here = ap (λ (x : Held). finite.get x.lookups w.ticket) (sym view) ∙ is_shown s inside.0.tickets slot w here
 
   placed : (t : ℕ) (l : Pending) → finite.get h.lookups t ≡ Some l → (slot : ℕ) × (get s slot ≡ Some (under t l)) × (f l.nonce ≡ Some slot) × (l.nonce < next)
@@ -274,20 +274,20 @@ module _ (s : Slab Waiting) {f : ℕ → Option ℕ} {next : ℕ} (inside : IsTa
         let p = placed t l found in
         ap (get s) (same_Some slot p.0 (sym here ∙ ap f (sym same) ∙ p.2)) ∙ p.1
 
-    pub only_one : (w : Waiting) → get s slot ≡ Some w → (t : ℕ) → HasNonce h.lookups t nonce → w.ticket ≡ t
-    only_one w at t has = ap (λ (x : Waiting). x.ticket) (same_Some w (under t has.0) (sym at ∙ in_its_slot t has.0 has.1 has.2))
+    pub only_one : (w : TicketedLookup) → get s slot ≡ Some w → (t : ℕ) → HasNonce h.lookups t nonce → w.ticket ≡ t
+    only_one w at t has = ap (λ (x : TicketedLookup). x.ticket) (same_Some w (under t has.0) (sym at ∙ in_its_slot t has.0 has.1 has.2))
 
     -- the lookup of the least nonce that leads anywhere has the least nonce of all, and the first deadline
-    module _ (w : Waiting) (below : nonce < next) (at : get s slot ≡ Some w) (least : (q place : ℕ) → f q ≡ Some place → nonce ≤ q) where
+    module _ (w : TicketedLookup) (below : nonce < next) (at : get s slot ≡ Some w) (least : (q place : ℕ) → f q ≡ Some place → nonce ≤ q) where
       own_nonce : w.lookup.nonce ≡ nonce
-      own_nonce = let o = inside.0.held nonce slot here below in ap (λ (v : Waiting). v.lookup.nonce) (same_Some w o.0 (sym at ∙ o.1)) ∙ o.2
+      own_nonce = let o = inside.0.held nonce slot here below in ap (λ (v : TicketedLookup). v.lookup.nonce) (same_Some w o.0 (sym at ∙ o.1)) ∙ o.2
 
       pub least_nonce : (u : ℕ) (m : Pending) → finite.get h.lookups u ≡ Some m → w.lookup.nonce ≤ m.nonce
       least_nonce u m found = let o = placed u m found in omega (arith, own_nonce, least m.nonce o.0 o.2)
 
       pub first_deadline : (u : ℕ) (m : Pending) → finite.get h.lookups u ≡ Some m → w.lookup.deadline ≤ m.deadline
       first_deadline u m found = elim (cases_eq nonce m.nonce) [
-        | inl same ↦ rw (ap (λ (x : Waiting). x.lookup.deadline) (same_Some w (under u m) (sym at ∙ in_its_slot u m found (sym same)))) (omega arith)
+        | inl same ↦ rw (ap (λ (x : TicketedLookup). x.lookup.deadline) (same_Some w (under u m) (sym at ∙ in_its_slot u m found (sym same)))) (omega arith)
         | inr other ↦ let o = placed u m found in inside.0.rising slot o.0 w (under u m) at o.1 (omega (arith, own_nonce, other, least_nonce u m found))
       ]
 
@@ -300,7 +300,7 @@ module _ (s : Slab Waiting) {f : ℕ → Option ℕ} {next : ℕ} (inside : IsTa
   pair_in_map slot None there = tt
   pair_in_map slot (Some p) there = in_map slot (under p.0 p.1) there
 
-  pub ticket_absent : (t : ℕ) → ((slot : ℕ) (w : Waiting) → get s slot ≡ Some w → w.ticket ≢ t) → finite.get h.lookups t ≡ None
+  pub ticket_absent : (t : ℕ) → ((slot : ℕ) (w : TicketedLookup) → get s slot ≡ Some w → w.ticket ≢ t) → finite.get h.lookups t ≡ None
   ticket_absent t none = ap (λ (x : Held). finite.get x.lookups t) (sym view) ∙ absent s t none
 
 -- a map that is read by its order: the first key is at or below each
@@ -328,11 +328,11 @@ others_taken m n k u q other = u.2 q (unsigned_tied k q ∙ not_same k q (λ sam
 
 -- what becomes of the map where the lookup of a nonce is taken out
 module _ (m n : FinMap nat_cmp Pending) (t nonce : ℕ) (has : HasNonce m t nonce) where
-  pub taken_out : (o : Option Waiting) → IfSome o (λ w. n ≡ remove m w.ticket) → IfSome o (λ w. (u : ℕ) → HasNonce m u nonce → w.ticket ≡ u) → IfNone o (IsUnknown m nonce) → n ≡ remove m t
+  pub taken_out : (o : Option TicketedLookup) → IfSome o (λ w. n ≡ remove m w.ticket) → IfSome o (λ w. (u : ℕ) → HasNonce m u nonce → w.ticket ≡ u) → IfNone o (IsUnknown m nonce) → n ≡ remove m t
   taken_out None taken only none = absurd (none t has.0 has.1 has.2)
   taken_out (Some w) taken only none = taken ∙ ap (remove m) (only t has)
 
-  pub is_taken : (o : Option Waiting) → IfNone o (IsUnknown m nonce) → is_some o ≡ true
+  pub is_taken : (o : Option TicketedLookup) → IfNone o (IsUnknown m nonce) → is_some o ≡ true
   is_taken None none = absurd (none t has.0 has.1 has.2)
   is_taken (Some w) none = refl
 

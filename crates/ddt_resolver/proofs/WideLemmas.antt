@@ -8,7 +8,7 @@ use Rattle.ddt_path.specs.Path.{xeid_path}
 use Rattle.ddt_resolver.specs.declared.pending.Pending.{Pending}
 use Rattle.ddt_resolver.specs.State.{State, server}
 use Rattle.ddt_resolver.specs.Records.{IsAbout}
-use Rattle.ddt_resolver.specs.TakeUp.{IsReplyTo}
+use Rattle.ddt_resolver.specs.MatchReply.{IsReplyTo}
 use Rattle.ddt_resolver.specs.Order.{IsStateInOrder}
 use Rattle.ddt_resolver.specs.Within.{IsBeyond, IsWide}
 use Rattle.ddt_resolver.proofs.ReplyLemmas.{this_one}

@@ -4,7 +4,7 @@ use Rattle.std.specs.FinMap.{len}
 use Rattle.ddt_path.specs.declared.xeid.Xeid.{Xeid}
 use Rattle.ddt_path.specs.declared.record.Outcome.{Outcome}
 use Rattle.ddt_path.specs.Path.{xeid_path}
-use Rattle.ddt_cache.specs.declared.entry.Entry.{Entry}
+use Rattle.ddt_cache.specs.declared.cache_entry.Entry.{Entry}
 use Rattle.ddt_cache.specs.Found.{IsFound}
 use Rattle.ddt_path.specs.declared.locator.Locator.{Locator}
 use Rattle.ddt_resolver.specs.declared.results.Beginning.{Beginning}
@@ -13,7 +13,7 @@ use Rattle.ddt_resolver.specs.declared.results.Asked.{Asked}
 use Rattle.ddt_resolver.specs.declared.results.Asked.TheVariants.{Answer, Sent}
 use Rattle.ddt_resolver.specs.declared.results.AskError.{AskError}
 use Rattle.ddt_resolver.specs.declared.results.AskError.TheVariants.{TooMany, Exhausted, Memory}
-use Rattle.ddt_resolver.specs.State.{State, last_nonce, most_pending, opening, lodged, request}
+use Rattle.ddt_resolver.specs.State.{State, last_nonce, most_pending, opening, request_sent, request}
 use Rattle.ddt_resolver.specs.Records.{negative_answer, start_at}
 
 -- what an entry answers by itself
@@ -41,13 +41,14 @@ pub record IsFree (s : State) (p : List ℕ) (e : Entry) : Type 0 where
 -- The step, where the entry e of the prefix p is found. `cached`: a negative entry answers at once. `full`: 1,024
 -- lookups are pending. `used_up`: no nonce is left. `opened`: a lookup starts at the entry's servers; its ticket is its
 -- nonce.
-pub data Start (s : State) (x : Xeid) (p : List ℕ) (e : Entry) (new : State) (r : Result Asked AskError) : Type 0 where
+pub data Start (s : State) (x : Xeid) (p : List ℕ) (e : Entry) (new : State) (r : Result Asked AskError) :
+    Type 0 where
   cached : (o : Outcome) → answer_of p e ≡ Some o → new ≡ s → r ≡ Ok (Answer o) → Start s x p e new r
   full : answer_of p e ≡ None → most_pending ≤ len s.pending → new ≡ s → r ≡ Err TooMany → Start s x p e new r
   used_up : answer_of p e ≡ None → len s.pending < most_pending → s.next ≡ last_nonce → new ≡ s → r ≡ Err Exhausted
       → Start s x p e new r
   opened : IsFree s p e
-      → new ≡ lodged s s.next (opening x e.servers (start_at p))
+      → new ≡ request_sent s s.next (opening x e.servers (start_at p))
       → r ≡ Ok (Sent s.next (request s (opening x e.servers (start_at p))))
       → Start s x p e new r
 

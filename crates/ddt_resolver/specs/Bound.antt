@@ -29,7 +29,7 @@ again digits (Some start) = most_locators * (digits + 2)
 abbrev pub measure : Pending → ℕ
 measure l =
     let digits = length (xeid_path l.x) in
-    (length l.servers - l.place) + most_locators * room digits l.saved + again digits l.start
+    (length l.servers - l.server_index) + most_locators * room digits l.last_referral + again digits l.start_entry
 
 -- at an ask it is at most 16 times the number of digits and 2
 abbrev pub StartsWithin : State → Xeid → Asked → Type 0
@@ -48,7 +48,7 @@ ComesNearer s new (GaveUp t why) = Unit {0}
 -- each referral that is followed has a longer prefix than the one that is saved
 abbrev pub GoesDown : State → List ℕ → Heard → Type 0
 GoesDown s bytes (Followed t d) = (l : Pending) (v : Message) → get s.pending t ≡ Some l → Spells bytes v
-    → IsReferral v.action → IsBelow l.saved v.prefix
+    → IsReferral v.action → IsBelow l.last_referral v.prefix
 GoesDown s bytes (Ignored why) = Unit {0}
 GoesDown s bytes (Answer t o) = Unit {0}
 GoesDown s bytes (GaveUp t why) = Unit {0}

@@ -2,13 +2,13 @@ pub mod State
 pub mod Records
 pub mod AskStep
 pub mod Within
-pub mod TakeUp
+pub mod MatchReply
 pub mod Act
 pub mod TickStep
 pub mod Step
 pub mod Order
 pub mod Bound
-pub mod Waiting
+pub mod TicketedLookup
 pub mod Table
 pub mod Acting
 pub mod Front

@@ -8,7 +8,7 @@ use Rattle.ddt_path.specs.declared.xeid.Xeid.{Xeid}
 use Rattle.ddt_path.specs.declared.record.ReferralRecord.{ReferralRecord}
 use Rattle.ddt_ecm.specs.Request.{written}
 use Rattle.ddt_ecm.specs.UdpHeader.{control_port}
-use Rattle.ddt_cache.specs.declared.entry.Entry.{Entry}
+use Rattle.ddt_cache.specs.declared.cache_entry.Entry.{Entry}
 use Rattle.ddt_cache.specs.Live.{Known, known_code, nothing_known}
 use Rattle.ddt_cache.specs.Live as cache
 use Rattle.ddt_cache.specs.Saved as cache_saved
@@ -37,21 +37,21 @@ state_code entry locator pending =
 abbrev pub fresh : List Locator → Locator → ℕ → State
 fresh roots me_ seed = record { known = nothing_known roots; me = me_; next = seed; pending = empty }
 
--- the value of the nonce counter at which nothing is sent any more
+-- the nonce that is never sent: where it is next, no nonce is left
 abbrev pub last_nonce : ℕ
 last_nonce = 18446744073709551615
 
--- how many lookups may be pending
+-- the most lookups that are pending at once
 abbrev pub most_pending : ℕ
 most_pending = 1024
 
--- how many milliseconds a lookup waits for a reply
-abbrev pub patience : ℕ
-patience = 2000
+-- the number of milliseconds for which a lookup waits for the reply to a request
+abbrev pub reply_timeout_ms : ℕ
+reply_timeout_ms = 2000
 
 -- the server that a lookup asks
 abbrev pub server : Locator → Pending → Locator
-server me l = get_or l.servers l.place me
+server me l = get_or l.servers l.server_index me
 
 -- the request for an identifier, with the bit D, and with the resolver's address as its one ITR-RLOC
 unfoldable pub request_bytes : ℕ → Xeid → Locator → List ℕ
@@ -63,11 +63,11 @@ request s l = record { to = server s.me l; port = control_port; bytes = request_
 
 -- a lookup once that request is sent
 abbrev pub numbered : State → Pending → Pending
-numbered s l = record l { nonce = s.next; deadline = s.known.time + patience }
+numbered s l = record l { nonce = s.next; deadline = s.known.time + reply_timeout_ms }
 
--- a lookup is pending under a ticket, and its request is sent
-abbrev pub lodged : State → ℕ → Pending → State
-lodged s t l = record s { pending = insert s.pending t (numbered s l); next = s.next + 1 }
+-- after sending the request of a lookup, which is pending under a ticket
+abbrev pub request_sent : State → ℕ → Pending → State
+request_sent s t l = record s { pending = insert s.pending t (numbered s l); next = s.next + 1 }
 
 -- a ticket isn't pending any more
 abbrev pub dropped : State → ℕ → State
@@ -97,7 +97,7 @@ with_change s change = record s { known = changed s.known change }
 
 -- a lookup at the first server of another set
 abbrev pub at_set : Pending → List Locator → Pending
-at_set l servers = record l { servers = servers; place = 0; second = false }
+at_set l servers = record l { servers = servers; server_index = 0; is_retry = false }
 
 -- a new lookup, at the first server of a set; it started at an entry of this prefix, or at the root
 abbrev pub opening : Xeid → List Locator → Option (List ℕ) → Pending
@@ -105,32 +105,38 @@ opening x servers start =
     record {
       x = x;
       servers = servers;
-      place = 0;
-      second = false;
+      server_index = 0;
+      is_retry = false;
       nonce = 0;
       deadline = 0;
-      saved = None;
-      kept = None;
+      last_referral = None;
+      last_not_registered = None;
       restarted = false;
-      start = start;
+      start_entry = start;
     }
 
 -- a lookup that follows a referral
 abbrev pub referred : Pending → ReferralRecord → Pending
-referred l rec = record (at_set l rec.servers) { saved = Some rec.prefix; kept = None }
+referred l rec = record (at_set l rec.servers) { last_referral = Some rec.prefix; last_not_registered = None }
 
 -- a lookup that goes on to the next server of its set after an MS-NOT-REGISTERED
 abbrev pub passed_on : Pending → ReferralRecord → Pending
-passed_on l rec = record l { place = l.place + 1; second = false; kept = Some rec }
+passed_on l rec = record l { server_index = l.server_index + 1; is_retry = false; last_not_registered = Some rec }
 
 -- a lookup that starts again at the root
 abbrev pub started_over : State → Pending → Pending
-started_over s l = record (at_set l s.known.roots) { saved = None; kept = None; start = None; restarted = true }
+started_over s l =
+    record (at_set l s.known.roots) {
+      last_referral = None;
+      last_not_registered = None;
+      start_entry = None;
+      restarted = true;
+    }
 
 -- a lookup that asks the same server again
 abbrev pub tried_again : Pending → Pending
-tried_again l = record l { second = true }
+tried_again l = record l { is_retry = true }
 
 -- a lookup that goes on to the next server without a reply
 abbrev pub at_next : Pending → Pending
-at_next l = record l { place = l.place + 1; second = false }
+at_next l = record l { server_index = l.server_index + 1; is_retry = false }

@@ -1,11 +1,11 @@
--- The table of pending lookups: each stands in a slot of a slab, and the nonce of its last request leads to its slot.
+-- The table of pending lookups: each is in a slot of a slab, found by the nonce of its last request.
 use Rattle.std.specs.Prelude.{ℕ, ◌<◌, ◌≤◌, ◌≡◌, ◌≢◌, Bool, map, Option, Some, refl}
 use Rattle.std.specs.Ordering.{nat_cmp}
 use Rattle.std.specs.FinMap.{FinMap, get, from_entries, code}
 use Rattle.std.specs.Coded.{Coded, code_by, coded×, coded_ℕ, coded_bool}
 use Rattle.slab.specs.Slab.{Slab, entries}
 use Rattle.ddt_resolver.specs.declared.pending.Pending.{Pending}
-use Rattle.ddt_resolver.specs.Waiting.{Waiting}
+use Rattle.ddt_resolver.specs.TicketedLookup.{TicketedLookup}
 
 -- the lookups by their tickets; the nonce of the next request; for how many more lookups there is room; whether there
 -- is room for that nonce
@@ -23,25 +23,26 @@ held_code pending =
     (λ h. (h.lookups, (h.next, (h.spare, h.is_ready)))) (λ p.
     record { lookups = p.0; next = p.1.0; spare = p.1.1.0; is_ready = p.1.1.1 }) (λ _. refl)
 
--- a lookup behind its ticket
-abbrev pub ticketed : ℕ × Waiting → ℕ × Pending
+-- a lookup with its ticket before it
+abbrev pub ticketed : ℕ × TicketedLookup → ℕ × Pending
 ticketed e = (e.1.ticket, e.1.lookup)
 
 -- the lookups of a slab by their tickets
-abbrev pub by_ticket : Slab Waiting → FinMap nat_cmp Pending
+abbrev pub by_ticket : Slab TicketedLookup → FinMap nat_cmp Pending
 by_ticket s = from_entries {R = nat_cmp} (map ticketed (entries s))
 
 -- What holds of a table. Each lookup has a ticket of its own and a nonce that was given out, which leads to its slot.
 -- No other nonce that was given out leads anywhere; the next one may, so that there is room for it. A lookup with a
 -- lower nonce has no later deadline.
-pub record IsTable (slot_of : ℕ → Option ℕ) (lookup_in : ℕ → Option Waiting) (next : ℕ) : Type 0 where
-  pub noted : (slot : ℕ) (w : Waiting) → lookup_in slot ≡ Some w → slot_of w.lookup.nonce ≡ Some slot
+pub record IsTable (slot_of : ℕ → Option ℕ) (lookup_in : ℕ → Option TicketedLookup) (next : ℕ) : Type 0 where
+  pub noted : (slot : ℕ) (w : TicketedLookup) → lookup_in slot ≡ Some w → slot_of w.lookup.nonce ≡ Some slot
   pub held : (nonce slot : ℕ) → slot_of nonce ≡ Some slot → nonce < next
-      → (w : Waiting) × (lookup_in slot ≡ Some w) × (w.lookup.nonce ≡ nonce)
+      → (w : TicketedLookup) × (lookup_in slot ≡ Some w) × (w.lookup.nonce ≡ nonce)
   pub given : (nonce slot : ℕ) → slot_of nonce ≡ Some slot → nonce ≤ next
-  pub nonces : (slot : ℕ) (w : Waiting) → lookup_in slot ≡ Some w → w.lookup.nonce < next
-  pub tickets : (i j : ℕ) (v w : Waiting) → lookup_in i ≡ Some v → lookup_in j ≡ Some w → v.ticket ≡ w.ticket → i ≡ j
-  pub rising : (i j : ℕ) (v w : Waiting) → lookup_in i ≡ Some v → lookup_in j ≡ Some w
+  pub nonces : (slot : ℕ) (w : TicketedLookup) → lookup_in slot ≡ Some w → w.lookup.nonce < next
+  pub tickets : (i j : ℕ) (v w : TicketedLookup) → lookup_in i ≡ Some v → lookup_in j ≡ Some w
+      → v.ticket ≡ w.ticket → i ≡ j
+  pub rising : (i j : ℕ) (v w : TicketedLookup) → lookup_in i ≡ Some v → lookup_in j ≡ Some w
       → v.lookup.nonce < w.lookup.nonce → v.lookup.deadline ≤ w.lookup.deadline
 
 -- no pending lookup has this nonce

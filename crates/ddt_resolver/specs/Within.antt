@@ -10,7 +10,7 @@ use Rattle.ddt_wire.specs.Referral.{Spells, message_of, written}
 use Rattle.ddt_resolver.specs.declared.pending.Pending.{Pending}
 use Rattle.ddt_resolver.specs.Records.{IsAbout}
 use Rattle.ddt_resolver.specs.State.{State}
-use Rattle.ddt_resolver.specs.TakeUp.{IsFromServer}
+use Rattle.ddt_resolver.specs.MatchReply.{IsFromServer}
 
 -- the saved prefix, or that of the entry at which the pass started
 abbrev pub first_of : Option (List ℕ) → Option (List ℕ) → Option (List ℕ)
@@ -20,7 +20,7 @@ first_of None start = start
 -- The prefix by which a lookup asks its server: of the referral that it followed last, or of the remembered entry at
 -- which its pass started. None for the root, which answers for everything (RFC 8111, section 7.3).
 abbrev pub asked_within : Pending → Option (List ℕ)
-asked_within l = first_of l.saved l.start
+asked_within l = first_of l.last_referral l.start_entry
 
 -- A record's prefix doesn't lie inside the zone by which a lookup asks. A server that says it isn't in charge is
 -- believed for any prefix.

@@ -1,4 +1,4 @@
-//! What is done with a reply, by the record's action (RFC 8111, sections 6.1 and 7.3).
+//! The handling of a Map-Referral by its action (RFC 8111, sections 6.1 and 7.3).
 
 ghost use Rattle.std.specs.Prelude.{◌≡◌, ◌<◌, IsTrue, IfOk, OnErr};
 ghost use Rattle.ddt_path.specs.declared.action.Action.TheVariants as act;
@@ -14,7 +14,7 @@ ghost use Rattle.ddt_resolver.specs.Bound.{ComesNearer, GoesDown};
 
 use crate::loop_detection::is_below;
 use crate::pending::Pending;
-use crate::replies::Taken;
+use crate::replies::MatchedReply;
 use crate::requests::Change;
 use crate::resolver::Resolver;
 use crate::results::{Heard, Ticket, Why};
@@ -24,13 +24,13 @@ use ddt_trie::PrefixMap;
 use std::alloc::AllocError;
 
 impl<M: PrefixMap<Entry>> Resolver<M> {
-    /// Hears a datagram from a source at `now`. It is ignored where it is no reply that a pending lookup waits for: 1
-    /// Undecodable, 2 UnknownNonce, 3 WrongSource, 4 Late, 5 NotCovering, 6 NoServers, the first that applies. Else
-    /// the lookup goes on with a request, to be sent, or ends: with an outcome, or as 2 Loop, 3 NotAuthoritative or
-    /// 4 Exhausted. Of a referral the first eight servers are kept.
+    /// Handles a datagram from a source at `now`. A datagram that isn't the reply to a pending lookup's last request is
+    /// ignored, for the first reason that applies: 1 Undecodable, 2 UnknownNonce, 3 WrongSource, 4 Late, 5 NotCovering,
+    /// 6 NoServers. Otherwise the lookup goes on with a request, to be sent, or ends: with an outcome, or as 2 Loop,
+    /// 3 NotAuthoritative or 4 Exhausted. Of a referral the first eight servers are kept.
     ///
-    /// It fails only if out of memory, where a request is to be sent or a record to be saved that takes the place of no
-    /// live one; then nothing changes but the time, and the lookup waits on.
+    /// Fails only if out of memory, when a request is to be sent, or a record to be saved that replaces no live one.
+    /// Then nothing changes but the time, and the lookup still waits.
     pub fn datagram(
         &mut self,
         now: Moment,
@@ -49,7 +49,7 @@ impl<M: PrefixMap<Entry>> Resolver<M> {
         self.hear(from, bytes)
     }
 
-    /// The datagram at its time.
+    /// Handles a datagram at the current time.
     fn hear(&mut self, from: Locator, bytes: &[u8]) -> Result<Heard, AllocError>
         ensures step { IfOk result (λ heard. HearStep self.old from bytes.now self.new heard) }
         ensures unchanged { OnErr result (self.new ≡ self.old) }
@@ -58,14 +58,14 @@ impl<M: PrefixMap<Entry>> Resolver<M> {
         ensures down { IfOk result (λ heard. GoesDown self.old bytes.now heard) }
     {
         self.in_order();
-        match self.take_up(from, bytes) {
+        match self.match_reply(from, bytes) {
             Ok(taken) => self.act(&taken),
             Err(why) => Ok(Heard::Ignored(why)),
         }
     }
 
-    /// Acts on a reply.
-    fn act(&mut self, taken: &Taken) -> Result<Heard, AllocError>
+    /// Handles a reply by its action.
+    fn act(&mut self, taken: &MatchedReply) -> Result<Heard, AllocError>
         requires { IsHeard self.old taken.now }
         ensures act { IfOk result (λ heard. Act self.old taken.now.ticket taken.now.lookup taken.now.told self.new
             heard) }
@@ -80,8 +80,8 @@ impl<M: PrefixMap<Entry>> Resolver<M> {
         }
     }
 
-    /// A referral: it is followed where its prefix is longer than the saved one, else the lookup ends.
-    fn follow(&mut self, taken: &Taken) -> Result<Heard, AllocError>
+    /// Follows a referral if its prefix is longer than the last one's; otherwise the lookup ends as 2 Loop.
+    fn follow(&mut self, taken: &MatchedReply) -> Result<Heard, AllocError>
         requires heard { IsHeard self.old taken.now }
         requires action { IsReferral taken.now.told.action }
         ensures act { IfOk result (λ heard. Act self.old taken.now.ticket taken.now.lookup taken.now.told self.new
@@ -89,7 +89,7 @@ impl<M: PrefixMap<Entry>> Resolver<M> {
         ensures unchanged { OnErr result (self.new ≡ self.old) }
         ensures wanted { OnErr result (Saves self.old taken.now.lookup taken.now.told) }
     {
-        if !is_below(taken.lookup.saved, taken.told.prefix) {
+        if !is_below(taken.lookup.last_referral, taken.told.prefix) {
             self.close(taken.lookup.nonce);
             return Ok(Heard::GaveUp(Ticket::of(taken.ticket), Why::Loop));
         }
@@ -97,8 +97,8 @@ impl<M: PrefixMap<Entry>> Resolver<M> {
         self.send_on(taken.ticket, &lookup, &Change::Save(taken.told))
     }
 
-    /// A final record: it is saved, and the lookup ends with its outcome.
-    fn answer(&mut self, taken: &Taken) -> Result<Heard, AllocError>
+    /// Saves a final record, and ends the lookup with its outcome.
+    fn answer(&mut self, taken: &MatchedReply) -> Result<Heard, AllocError>
         requires { IsHeard self.old taken.now }
         ensures answered { IfOk result (λ heard. IsAnswered self.old taken.now self.new heard) }
         ensures unchanged { OnErr result (self.new ≡ self.old) }
@@ -108,8 +108,8 @@ impl<M: PrefixMap<Entry>> Resolver<M> {
         Ok(Heard::Answer(Ticket::of(taken.ticket), outcome(&taken.told)))
     }
 
-    /// MS-NOT-REGISTERED: it is kept, and the next server of the set is asked; that of the last server is the answer.
-    fn keep_and_go_on(&mut self, taken: &Taken) -> Result<Heard, AllocError>
+    /// Keeps an MS-NOT-REGISTERED and asks the next server of the set; that of the last server is the answer.
+    fn keep_and_go_on(&mut self, taken: &MatchedReply) -> Result<Heard, AllocError>
         requires heard { IsHeard self.old taken.now }
         requires action { taken.now.told.action ≡ act.MsNotRegistered }
         ensures act { IfOk result (λ heard. Act self.old taken.now.ticket taken.now.lookup taken.now.told self.new
@@ -117,16 +117,16 @@ impl<M: PrefixMap<Entry>> Resolver<M> {
         ensures unchanged { OnErr result (self.new ≡ self.old) }
         ensures wanted { OnErr result (Saves self.old taken.now.lookup taken.now.told) }
     {
-        if taken.lookup.place + 1 >= taken.lookup.servers.as_slice().len() {
+        if taken.lookup.server_index + 1 >= taken.lookup.servers.as_slice().len() {
             return self.answer(taken);
         }
         let lookup = taken.lookup.passed_on(&taken.told);
         self.send_on(taken.ticket, &lookup, &Change::Keep)
     }
 
-    /// NOT-AUTHORITATIVE: a lookup that started at a remembered entry starts once more, at the root, and the entry is
-    /// forgotten. Any other ends.
-    fn start_over(&mut self, taken: &Taken) -> Result<Heard, AllocError>
+    /// Handles NOT-AUTHORITATIVE: a lookup that started at a cache entry forgets it and starts again at the root. Any
+    /// other lookup ends as 3 NotAuthoritative.
+    fn start_over(&mut self, taken: &MatchedReply) -> Result<Heard, AllocError>
         requires heard { IsHeard self.old taken.now }
         requires action { taken.now.told.action ≡ act.NotAuthoritative }
         ensures act { IfOk result (λ heard. Act self.old taken.now.ticket taken.now.lookup taken.now.told self.new
@@ -134,7 +134,7 @@ impl<M: PrefixMap<Entry>> Resolver<M> {
         ensures unchanged { OnErr result (self.new ≡ self.old) }
         ensures wanted { OnErr result (Saves self.old taken.now.lookup taken.now.told) }
     {
-        match taken.lookup.start {
+        match taken.lookup.start_entry {
             Some(prefix) => {
                 let lookup = taken.lookup.started_over(self.cache.roots());
                 self.send_on(taken.ticket, &lookup, &Change::Forget(prefix))
@@ -146,7 +146,7 @@ impl<M: PrefixMap<Entry>> Resolver<M> {
         }
     }
 
-    /// The lookup of a ticket goes on as this one, or ends where no nonce is left.
+    /// Sends the next request of a ticket's lookup, which is `lookup` from now on; ends it if no nonce is left.
     fn send_on(
         &mut self,
         ticket: u64,
@@ -160,16 +160,16 @@ impl<M: PrefixMap<Entry>> Resolver<M> {
         ensures unchanged { OnErr result (self.new ≡ self.old) }
         ensures nonce { OnErr result (self.old.next < last_nonce) }
     {
-        if self.next_nonce() == u64::MAX {
+        if !self.has_nonce_left() {
             self.close(lookup.nonce);
             return Ok(Heard::GaveUp(Ticket::of(ticket), Why::Exhausted));
         }
-        let outgoing = self.lodge(ticket, lookup, change)?;
+        let outgoing = self.send_next(ticket, lookup, change)?;
         Ok(Heard::Followed(Ticket::of(ticket), outgoing))
     }
 }
 
-/// What a final record says of an identifier that it covers.
+/// The outcome that a final record gives for an identifier that it covers.
 fn outcome(told: &ReferralRecord) -> Outcome
     ensures { result ≡ outcome_of told.now }
 {

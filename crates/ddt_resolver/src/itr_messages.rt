@@ -1,5 +1,5 @@
-//! The side of a Map-Resolver that ITRs see: what an ITR's request asks, and the negative Map-Reply to it (RFC 8111,
-//! section 7.3; RFC 9301, sections 5.4 and 5.8).
+//! A Map-Resolver's messages with ITRs: the Map-Request of an ITR, and the negative Map-Reply to it (RFC 8111, section
+//! 7.3; RFC 9301, sections 5.4 and 5.8).
 
 ghost use Rattle.std.specs.Prelude.{◌≡◌, ◌≤◌, false, Some, None, Ok, IfOk, IfSome, IsSome, vec_capacity};
 ghost use Rattle.ddt_ecm.specs.Request.{Message, Spells};
@@ -12,12 +12,12 @@ use ddt_path::{HOLE_TTL, Listed, Locator, NOT_REGISTERED_TTL, Outcome, Prefix, X
 use ddt_wire::{put_negative_reply, write_negative_reply};
 use std::alloc::{AllocError, Global};
 
-/// The number of digits before the address: 32 of the instance, and the family's.
+/// The number of digits of an XEID before its address: 32 of the instance ID, and one of the address family.
 const BEFORE_ADDRESS: u8 = 33;
-/// No negative Map-Reply has more bytes.
+/// The most bytes of a negative Map-Reply.
 pub const MOST_REPLY_BYTES: usize = 52;
 
-/// What an ITR asks, and where the answer goes.
+/// The Map-Request of an ITR: what it asks for, and where the answer goes.
 #[derive(Clone, Copy, Debug, PartialEq, Eq)]
 pub struct ItrRequest {
     /// The identifier that it asks for.
@@ -26,12 +26,12 @@ pub struct ItrRequest {
     pub nonce: u64,
     /// The first ITR-RLOC: the answer goes there.
     pub to: Locator,
-    /// The inner source port: the answer goes to this port.
+    /// The inner UDP source port: the answer goes to this port.
     pub port: u16,
 }
 
-/// The prefix of a negative Map-Reply for the identifier: the block itself, or, in place of a range of instances, all
-/// addresses of the identifier's instance and family.
+/// The prefix of a negative Map-Reply for the identifier: `prefix`, or all addresses of the identifier's instance and
+/// family if `prefix` is a range of instances.
 fn block_for(x: Xeid, prefix: Prefix) -> Prefix
     ensures { result ≡ block_for_of x prefix }
 {
@@ -42,7 +42,7 @@ fn block_for(x: Xeid, prefix: Prefix) -> Prefix
     }
 }
 
-/// The TTL in minutes and the prefix of the negative answer for an identifier. None where it is registered.
+/// The TTL in minutes and the prefix of the negative answer for an identifier; None if it is registered.
 fn negative_for(x: Xeid, outcome: &Outcome) -> Option<(u32, Prefix)>
     ensures { result ≡ negative_for_of x outcome.now }
 {
@@ -53,12 +53,12 @@ fn negative_for(x: Xeid, outcome: &Outcome) -> Option<(u32, Prefix)>
     }
 }
 
-/// The side of a Map-Resolver that ITRs see. It keeps nothing: an ITR's request says where its answer goes.
+/// The side of a Map-Resolver that faces ITRs. It has no state: an ITR's request says where its answer goes.
 #[derive(Clone, Copy, Debug)]
 pub struct Front;
 
 impl Front {
-    /// What a request that was read asks, if its bit D is clear. None where the bit is set: a resolver asks then.
+    /// The ITR's request in a Map-Request that was read; None if the bit D is set, as a resolver sets it.
     pub fn asked(request: &Request<'_>) -> Option<ItrRequest>
         ensures { result ≡ asked_by request.now }
     {
@@ -74,8 +74,7 @@ impl Front {
         })
     }
 
-    /// The request of an ITR that the bytes are: an Encapsulated Map-Request whose bit D is clear. None for anything
-    /// else.
+    /// Reads the request of an ITR: an Encapsulated Map-Request whose bit D is clear. None for anything else.
     pub fn itr_request(bytes: &[u8]) -> Option<ItrRequest>
         // The bytes spell what is read.
         ensures found { IfSome result (λ q. IsItrRequest bytes.now q) }
@@ -90,9 +89,9 @@ impl Front {
         }
     }
 
-    /// What the resolver sends to an ITR for the outcome of its request: a negative Map-Reply with the ITR's nonce, to
-    /// its first ITR-RLOC at its inner source port. The TTL is 15 minutes for a hole, and 1 minute for a site without a
-    /// registration. None where a site is registered: the ITR is sent nothing then. Fails only if out of memory.
+    /// The datagram to an ITR for the outcome of its request: a negative Map-Reply with the ITR's nonce, to its first
+    /// ITR-RLOC at its inner source port. The TTL is 15 minutes for a delegation hole, and 1 minute for a site without
+    /// a registration. None if a site is registered: the resolver sends the ITR nothing. Fails only if out of memory.
     pub fn itr_reply(
         alloc: Global,
         outcome: &Outcome,
@@ -112,9 +111,9 @@ impl Front {
         }))
     }
 
-    /// Puts what `itr_reply` answers into a buffer, in place of what that holds, and says whether there is a reply: it
-    /// goes to the request's first ITR-RLOC at its inner source port. The buffer has room for 52 bytes, the most that a
-    /// reply has, so that it allocates nothing and never fails.
+    /// Replaces a buffer's bytes with the reply of `itr_reply`, and returns whether there is one. It goes to the
+    /// request's first ITR-RLOC at its inner source port. The buffer has room for the 52 bytes of the longest reply, so
+    /// the call allocates nothing and never fails.
     pub fn put_itr_reply(buffer: &mut Vec<u8>, outcome: &Outcome, request: &ItrRequest) -> bool
         requires { 52 ≤ vec_capacity buffer.old }
         ensures answered { in_buffer request.now buffer.new.items result ≡ reply_to_itr outcome.now request.now }

@@ -1,8 +1,9 @@
-//! A resolver of RFC 8111, section 7.3, as a machine of steps: an ask, a datagram, a tick, and a lookup that is hastened.
-//! It sends nothing itself: each call answers what is to be sent, and learns the time from its caller.
+//! A DDT Map-Resolver (RFC 8111, section 7.3) as a state machine. Its calls are an ask, a datagram, a tick, and the
+//! hastening of a lookup. It has no sockets and no clock: a call takes the time, and returns the datagram to send.
 //!
-//! In reading order: `results`, `limits`, `pending`, `waiting`, `table`, `resolver`, `asks`, `replies`,
-//! `zone_cut`, `loop_detection`, `actions`, `ticks`, `step`, `requests`, `laws`; `itr_messages` is the side that ITRs see.
+//! In reading order: `results`, `limits`, `pending`, `ticketed_lookup`, `table`, `resolver`, `asks`, `replies`,
+//! `zone_cut`, `loop_detection`, `actions`, `ticks`, `step`, `requests`, `laws`; `itr_messages` has the messages of
+//! ITRs.
 //! Tests: ddt_resolver_tests/resolver.
 #![tactic(auto)]
 
@@ -19,8 +20,8 @@ mod resolver;
 mod results;
 mod step;
 mod table;
+mod ticketed_lookup;
 mod ticks;
-mod waiting;
 mod zone_cut;
 
 pub use ddt_cache::Moment;

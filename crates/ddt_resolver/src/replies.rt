@@ -1,4 +1,4 @@
-//! Which datagrams are taken as a reply: six tests in order, which change nothing.
+//! Matching a datagram with a pending lookup: six tests in order, which change nothing.
 
 ghost use Rattle.std.specs.Prelude.{◌≡◌, ◌≢◌, ◌<◌, ℕ, IsTrue, false, Some, IfOk, IfErr, OnErr, IfSome, IfNone, length};
 ghost use Rattle.std.specs.FinMap as map;
@@ -9,7 +9,7 @@ ghost use Rattle.ddt_path.specs.declared.locator.Locator.{Locator as ALocator};
 ghost use Rattle.ddt_path.specs.Actions.{IsReferral};
 ghost use Rattle.ddt_resolver.specs.Records.{IsAbout, NamesServer};
 ghost use Rattle.ddt_resolver.specs.State.{server as server_of};
-ghost use Rattle.ddt_resolver.specs.TakeUp.{IsReplyTo, IsTaken, Ignores};
+ghost use Rattle.ddt_resolver.specs.MatchReply.{IsReplyTo, IsTaken, Ignores};
 
 use crate::pending::Pending;
 use crate::resolver::Resolver;
@@ -19,19 +19,19 @@ use ddt_path::{Action, Locator, ReferralRecord, Xeid};
 use ddt_trie::PrefixMap;
 use ddt_wire::read_referral;
 
-/// A reply and the lookup that waits for it.
+/// A reply and the pending lookup that it is for.
 #[derive(Clone, Copy, Debug)]
-pub struct Taken {
+pub struct MatchedReply {
     /// The lookup's ticket.
     pub ticket: u64,
     /// The lookup.
     pub lookup: Pending,
-    /// What the reply says.
+    /// The reply's record.
     pub told: ReferralRecord,
 }
 
 impl<M: PrefixMap<Entry>> Resolver<M> {
-    /// The identifier of the pending lookup whose last request has this nonce; None where no pending lookup has it.
+    /// The identifier of the pending lookup whose last request has this nonce; None if there is none.
     pub fn identifier_of(&self, nonce: u64) -> Option<Xeid>
         ensures asked { IfSome result (λ x. (t : ℕ) × (l : APending) × (map.get self.now.pending t ≡ Some l)
             × (l.nonce ≡ nonce) × (l.x ≡ x)) }
@@ -43,8 +43,9 @@ impl<M: PrefixMap<Entry>> Resolver<M> {
         }
     }
 
-    /// The lookup whose last request the bytes answer by its nonce. Refused as 1 Undecodable, then as 2 UnknownNonce.
-    pub(crate) fn reply(&self, bytes: &[u8]) -> Result<Taken, Ignored>
+    /// The lookup whose last request has the nonce of the reply in the bytes. Refused as 1 Undecodable, then as
+    /// 2 UnknownNonce.
+    pub(crate) fn reply(&self, bytes: &[u8]) -> Result<MatchedReply, Ignored>
         ensures found { IfOk result (λ r. IsReplyTo self.now bytes.now r.ticket r.lookup r.told) }
         ensures refused { (source : ALocator) → IfErr result (λ why. Ignores self.now source bytes.now why) }
         ensures none { OnErr result ((t : ℕ) (l : APending) (rec : RecordValue)
@@ -55,7 +56,7 @@ impl<M: PrefixMap<Entry>> Resolver<M> {
             Err(_fault) => return Err(Ignored::Undecodable),
         };
         match self.table.with_nonce(referral.nonce()) {
-            Some((ticket, lookup)) => Ok(Taken {
+            Some((ticket, lookup)) => Ok(MatchedReply {
                 ticket,
                 lookup,
                 told: referral.to_record(),
@@ -64,9 +65,9 @@ impl<M: PrefixMap<Entry>> Resolver<M> {
         }
     }
 
-    /// The reply that a datagram from a source is. Refused, in this order, as 1 Undecodable, 2 UnknownNonce,
-    /// 3 WrongSource, 4 Late, 5 NotCovering, 6 NoServers.
-    pub(crate) fn take_up(&self, source: Locator, bytes: &[u8]) -> Result<Taken, Ignored>
+    /// Matches a datagram from a source with the pending lookup that waits for it. Refused, in this order, as
+    /// 1 Undecodable, 2 UnknownNonce, 3 WrongSource, 4 Late, 5 NotCovering, 6 NoServers.
+    pub(crate) fn match_reply(&self, source: Locator, bytes: &[u8]) -> Result<MatchedReply, Ignored>
         ensures taken { IfOk result (λ r. IsTaken self.now source bytes.now r.ticket r.lookup r.told) }
         ensures refused { IfErr result (λ why. Ignores self.now source bytes.now why) }
     {
@@ -91,9 +92,9 @@ impl<M: PrefixMap<Entry>> Resolver<M> {
     }
 }
 
-/// Whether a source is the server that a lookup asked.
+/// Whether a source is the server that the lookup asked last.
 pub(crate) fn is_asked(lookup: &Pending, source: Locator) -> bool
-    requires { lookup.now.place < length lookup.now.servers }
+    requires { lookup.now.server_index < length lookup.now.servers }
     ensures yes { (me : ALocator) → IsTrue result → source ≡ server_of me lookup.now }
     ensures no { (me : ALocator) → result ≡ false → source ≡ server_of me lookup.now → ⊥ }
 {
@@ -111,7 +112,7 @@ fn is_referral(action: Action) -> bool
     }
 }
 
-/// Whether a record is about an identifier: its prefix covers it, or the server isn't in charge of it.
+/// Whether a record is about an identifier: its prefix covers it, or its action is NOT-AUTHORITATIVE.
 pub(crate) fn is_about(told: &ReferralRecord, x: Xeid) -> bool
     ensures yes { IsTrue result → IsAbout told.now (xeid_path x) }
     ensures no { result ≡ false → IsAbout told.now (xeid_path x) → ⊥ }
@@ -122,7 +123,7 @@ pub(crate) fn is_about(told: &ReferralRecord, x: Xeid) -> bool
     }
 }
 
-/// Whether a record names a server, where it refers to others.
+/// Whether a record names a server, if it refers to other servers; true if it doesn't.
 fn names_server(told: &ReferralRecord) -> bool
     ensures yes { IsTrue result → NamesServer told.now }
     ensures no { result ≡ false → NamesServer told.now → ⊥ }

@@ -1,10 +1,10 @@
-//! How a lookup is sent on, and how it ends. What can run out of memory comes first: the request's bytes, the
-//! room in the table, the cache; what changes the table takes none.
+//! Sending a lookup's requests, and ending a lookup. The steps that may run out of memory come first: the request's
+//! bytes, the room in the table, the cache. The change of the table comes last, and allocates nothing.
 
 ghost use Rattle.std.specs.Prelude.{◌≡◌, ◌<◌, ℕ, ◌≤◌, length, IfOk, OnOk, OnErr, IsTrue};
 ghost use Rattle.std.specs.FinMap as map;
 ghost use Rattle.ddt_path.specs.Locators.{most_locators};
-ghost use Rattle.ddt_resolver.specs.State.{last_nonce, most_pending, request as request_of, numbered as numbered_of, changed, with_change, lodged, dropped, stored};
+ghost use Rattle.ddt_resolver.specs.State.{last_nonce, most_pending, request as request_of, numbered as numbered_of, changed, with_change, request_sent, dropped, stored};
 ghost use Rattle.ddt_resolver.specs.Order.{IsLookup};
 ghost use Rattle.ddt_resolver.specs.Table.{HasNonce};
 ghost use Rattle.ddt_resolver.specs.Acting.{IsSmall};
@@ -12,7 +12,7 @@ ghost use Rattle.ddt_cache.specs.Saved.{is_added};
 ghost use Rattle.ddt_path.specs.declared.record.ReferralRecord.{ReferralRecord as RecordValue};
 ghost use Rattle.ddt_resolver.specs.declared.requests.Change.TheVariants.{Save};
 
-use crate::limits::PATIENCE;
+use crate::limits::REPLY_TIMEOUT_MS;
 use crate::pending::Pending;
 use crate::resolver::Resolver;
 use crate::results::Outgoing;
@@ -22,10 +22,10 @@ use ddt_path::{Listed, Prefix, ReferralRecord};
 use ddt_trie::PrefixMap;
 use std::alloc::AllocError;
 
-/// What becomes of the cache where a lookup goes on.
+/// The change of the cache when a lookup goes on.
 #[derive(Clone, Copy, Debug)]
 pub enum Change {
-    /// Nothing.
+    /// The cache stays as it is.
     Keep,
     /// A record is saved.
     Save(ReferralRecord),
@@ -34,10 +34,10 @@ pub enum Change {
 }
 
 impl<M: PrefixMap<Entry>> Resolver<M> {
-    /// The request that a lookup sends next. It fails only if out of memory.
+    /// The next request of a lookup. Fails only if out of memory.
     #[tactic(auto, unfolding(crate::specs::State::request_bytes))]
     fn request(&self, lookup: &Pending) -> Result<Outgoing, AllocError>
-        requires { lookup.now.place < length lookup.now.servers }
+        requires { lookup.now.server_index < length lookup.now.servers }
         ensures { IfOk result (λ d. d ≡ request_of self.now lookup.now) }
     {
         let bytes = write_request(self.alloc, self.next_nonce(), lookup.x, &[self.me], true)?;
@@ -48,22 +48,22 @@ impl<M: PrefixMap<Entry>> Resolver<M> {
         })
     }
 
-    /// The lookup once its request is sent.
+    /// The lookup after sending its request, with the next nonce and a deadline.
     fn numbered(&self, lookup: &Pending) -> Pending
         ensures { result ≡ numbered_of self.now lookup.now }
     {
-        let deadline = self.cache.time().millis() + PATIENCE;
+        let deadline = self.cache.time().millis() + REPLY_TIMEOUT_MS;
         lookup.numbered(self.next_nonce(), deadline)
     }
 
-    /// A new lookup is pending, and its request is sent; its ticket is the nonce. It fails only if out of memory, and
-    /// then nothing changes.
+    /// Adds a new pending lookup and returns its first request, to be sent; its ticket is the nonce. Fails only if out
+    /// of memory, and then nothing changes.
     pub(crate) fn open(&mut self, lookup: &Pending) -> Result<Outgoing, AllocError>
         requires lookup { IsLookup lookup.now }
         requires few { map.len self.old.pending < most_pending }
         requires nonce { self.old.next < last_nonce }
         ensures sent { IfOk result (λ d. d ≡ request_of self.old lookup.now) }
-        ensures opened { OnOk result (self.new ≡ lodged self.old self.old.next lookup.now) }
+        ensures opened { OnOk result (self.new ≡ request_sent self.old self.old.next lookup.now) }
         ensures unchanged { OnErr result (self.new ≡ self.old) }
     {
         let outgoing = self.request(lookup)?;
@@ -73,9 +73,9 @@ impl<M: PrefixMap<Entry>> Resolver<M> {
         Ok(outgoing)
     }
 
-    /// The pending lookup of a ticket goes on as this one, which has its nonce still: the cache changes, and its request
-    /// is sent. It fails only if out of memory, and then nothing changes.
-    pub(crate) fn lodge(
+    /// Changes the cache, replaces the pending lookup of a ticket by `lookup`, which still has its nonce, and returns
+    /// the next request, to be sent. Fails only if out of memory, and then nothing changes.
+    pub(crate) fn send_next(
         &mut self,
         ticket: u64,
         lookup: &Pending,
@@ -86,7 +86,8 @@ impl<M: PrefixMap<Entry>> Resolver<M> {
         requires nonce { self.old.next < last_nonce }
         requires change { IsSmall change.now }
         ensures sent { IfOk result (λ d. d ≡ request_of self.old lookup.now) }
-        ensures lodged { OnOk result (self.new ≡ lodged (with_change self.old change.now) ticket lookup.now) }
+        ensures request_sent { OnOk result
+            (self.new ≡ request_sent (with_change self.old change.now) ticket lookup.now) }
         ensures unchanged { OnErr result (self.new ≡ self.old) }
     {
         let outgoing = self.request(lookup)?;
@@ -97,8 +98,8 @@ impl<M: PrefixMap<Entry>> Resolver<M> {
         Ok(outgoing)
     }
 
-    /// The lookup whose last request has this nonce ends, and a record is saved. It fails only if out of memory, and
-    /// then nothing changes.
+    /// Saves a record, and ends the lookup whose last request has this nonce. Fails only if out of memory, and then
+    /// nothing changes.
     pub(crate) fn save_and_close(
         &mut self,
         nonce: u64,
@@ -115,7 +116,7 @@ impl<M: PrefixMap<Entry>> Resolver<M> {
         Ok(())
     }
 
-    /// The lookup whose last request has this nonce ends.
+    /// Ends the lookup whose last request has this nonce.
     pub(crate) fn close(&mut self, nonce: u64)
         ensures { (t : ℕ) → HasNonce self.old.pending t nonce → self.new ≡ dropped self.old t }
     {
@@ -123,7 +124,7 @@ impl<M: PrefixMap<Entry>> Resolver<M> {
     }
 }
 
-/// Changes the cache at its time. It fails only if out of memory, and then nothing changes.
+/// Changes the cache at its own time. Fails only if out of memory, and then nothing changes.
 fn apply<M: PrefixMap<Entry>>(cache: &mut Cache<M>, change: &Change) -> Result<(), AllocError>
     ensures applied { OnOk result (cache.new ≡ changed cache.old change.now) }
     ensures unchanged { OnErr result (cache.new ≡ cache.old) }

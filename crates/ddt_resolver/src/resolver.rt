@@ -1,4 +1,4 @@
-//! The resolver: what it remembers, what is pending, and its calls (RFC 8111, section 7.3).
+//! The resolver: its cache, its pending lookups, and its plain calls (RFC 8111, section 7.3).
 
 ghost use Rattle.std.specs.Prelude.{◌≡◌, ◌<◌, ◌≤◌, ℕ, length, None, IfOk, IfSome, IfNone};
 ghost use Rattle.std.specs.FinMap as map;
@@ -16,11 +16,10 @@ use ddt_trie::PrefixMap;
 use std::alloc::{AllocError, Global};
 use std::marker::Model;
 
-/// A resolver: what it remembers of the referrals that it got, and the lookups that wait for a reply. Contracts see its
-/// state.
+/// A resolver: its cache of referrals, and its pending lookups. Contracts see its state.
 #[derive(Drop)]
 pub struct Resolver<M: PrefixMap<Entry>> {
-    /// What it remembers, with the time and the root's servers.
+    /// The cache, with the time and the root's servers.
     pub(crate) cache: Cache<M>,
     /// The pending lookups, and the nonce of the next request.
     pub(crate) table: Table,
@@ -32,7 +31,7 @@ pub struct Resolver<M: PrefixMap<Entry>> {
 
 impl<M: PrefixMap<Entry>> Model for Resolver<M> {
     ghost use Rattle.ddt_path.specs.contracts.locator.Locator as locator;
-    ghost use Rattle.ddt_cache.specs.contracts.entry.Entry as entry;
+    ghost use Rattle.ddt_cache.specs.contracts.cache_entry.Entry as entry;
     ghost use Rattle.ddt_resolver.specs.contracts.pending.Pending as pending;
     ghost use Rattle.ddt_resolver.specs.State.{State, state_code};
     ghost use Rattle.ddt_resolver.specs.Order.{IsStateInOrder};
@@ -48,13 +47,13 @@ impl<M: PrefixMap<Entry>> Model for Resolver<M> {
 }
 
 impl<M: PrefixMap<Entry>> Resolver<M> {
-    /// A resolver at moment 0 that remembers nothing but the root's servers, at least one, and has no lookup pending.
-    /// Its address is `me`, and its first request gets the nonce `seed`. It takes its memory from `alloc` as it grows.
+    /// Creates a resolver at moment 0 with no lookup pending. Its cache has only the root's servers, at least one. Its
+    /// address is `me`, and its first request gets the nonce `seed`. It takes its memory from `alloc` as it grows.
     pub fn new(alloc: Global, roots: LocatorSet, me: Locator, seed: u64) -> Resolver<M>
         requires { 0 < length roots }
         ensures { result ≡ fresh roots me seed }
     {
-        // The slice tells the proof that the set holds at most 8 locators.
+        // The slice shows the proof that the set holds at most 8 locators.
         let _few = roots.as_slice();
         Resolver {
             cache: Cache::new(alloc, roots),
@@ -64,7 +63,7 @@ impl<M: PrefixMap<Entry>> Resolver<M> {
         }
     }
 
-    /// The time: the greatest moment that a call was given, at first 0.
+    /// The time: the greatest moment given to a call, 0 at first.
     pub fn time(&self) -> Moment
         ensures { result ≡ self.now.known.time }
     {
@@ -83,7 +82,7 @@ impl<M: PrefixMap<Entry>> Resolver<M> {
         self.alloc
     }
 
-    /// How many referrals it remembers, the root's servers not among them, as `Cache::held` counts them.
+    /// The number of records in the cache, as `Cache::held` counts them.
     pub fn remembered(&self) -> usize
         ensures most { result ≤ most_live_entries }
         ensures least { map.len self.now.known.live ≤ result }
@@ -91,23 +90,23 @@ impl<M: PrefixMap<Entry>> Resolver<M> {
         self.cache.held()
     }
 
-    /// The referrals that it remembers of the prefix `within` and of those inside it, as `Cache::inside` answers them.
-    /// Fails only if out of memory, also where memory ran out earlier for the list of their ends.
+    /// The cache entries of the prefix `within` and of those inside it, as `Cache::inside` returns them. Fails only if
+    /// out of memory, or if memory ran out earlier for the list of their ends.
     pub fn inside(&self, within: Prefix) -> Result<Vec<(Prefix, Entry)>, AllocError>
         ensures { IfOk result (λ rows. AreInside self.now.known within rows.items) }
     {
         self.cache.inside(self.alloc, within)
     }
 
-    /// How many lookups are pending.
+    /// The number of pending lookups.
     pub fn pending(&self) -> usize
         ensures { result ≡ map.len self.now.pending }
     {
         self.table.len()
     }
 
-    /// The least deadline of the pending lookups, in milliseconds as moments are; None where none is pending. Until then
-    /// a tick answers Nothing.
+    /// The least deadline of the pending lookups, in milliseconds; None if no lookup is pending. Until then a tick
+    /// returns Nothing.
     pub fn next_deadline(&self) -> Option<u64>
         ensures least { IfSome result (IsLeastDeadline self.now.pending) }
         ensures none { IfNone result ((t : ℕ) → map.get self.now.pending t ≡ None) }
@@ -115,14 +114,14 @@ impl<M: PrefixMap<Entry>> Resolver<M> {
         self.table.next_deadline()
     }
 
-    /// What holds of each resolver. The call does nothing.
+    /// Does nothing; its contract is what holds of every resolver.
     pub fn in_order(&self)
         ensures { IsStateInOrder self.now }
     {
         let _me = self.me;
     }
 
-    /// Ends a lookup without an answer, and says whether it was pending.
+    /// Ends a lookup without an answer, and returns whether it was pending.
     pub fn cancel(&mut self, ticket: Ticket) -> bool
         ensures dropped { self.new ≡ dropped self.old ticket }
         ensures there { result ≡ map.contains_key self.old.pending ticket }
@@ -130,8 +129,8 @@ impl<M: PrefixMap<Entry>> Resolver<M> {
         self.table.cancel(ticket.number())
     }
 
-    /// Forgets what is remembered of a prefix, and says whether something was. Pending lookups stay as they are. The
-    /// root's servers are never forgotten.
+    /// Forgets the cache entry of a prefix, and returns whether a live one was there. Pending lookups stay as they are.
+    /// The root's servers are never forgotten.
     pub fn forget(&mut self, prefix: Prefix) -> bool
         ensures forgotten { self.new ≡ forgotten self.old prefix }
         ensures there { result ≡ map.contains_key self.old.known.live prefix }
@@ -139,11 +138,11 @@ impl<M: PrefixMap<Entry>> Resolver<M> {
         self.cache.forget(prefix)
     }
 
-    /// Moves the time to `now`, where that is later.
+    /// Moves the time to `now` if `now` is later.
     pub(crate) fn advance(&mut self, now: Moment)
         ensures { self.new ≡ moved now self.old }
     {
-        // The number tells the proof that it is a moment.
+        // The number shows the proof that it is a moment.
         let _millis = now.millis();
         self.cache.advance(now);
     }

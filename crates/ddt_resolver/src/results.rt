@@ -1,10 +1,10 @@
-//! What a resolver answers to an ask, to a datagram and to a tick, and what it sends.
+//! The results of an ask, a datagram and a tick, and the datagrams that a resolver sends.
 
 use ddt_path::{Listed, Locator, LocatorSet, Outcome};
 use std::marker::Model;
 use thiserror::Error;
 
-/// A lookup's ticket: the nonce of its first request, so that no ticket is used again. Contracts see the number.
+/// A lookup's ticket: the nonce of its first request, so no two lookups have the same. Contracts see the number.
 #[derive(Clone, Copy, Debug, PartialEq, Eq)]
 pub struct Ticket {
     number: u64,
@@ -49,21 +49,21 @@ pub struct Outgoing {
     pub bytes: Listed<u8>,
 }
 
-/// What an ask would begin with.
+/// The beginning of an ask.
 #[derive(Clone, Copy, Debug)]
 pub enum Beginning {
-    /// The answer that a negative record gives, which is remembered.
+    /// The answer of a negative record in the cache.
     Answer(Outcome),
-    /// The servers that a lookup would ask.
+    /// The servers that a lookup asks first.
     Servers(LocatorSet),
 }
 
-/// What an ask is answered.
+/// The result of an ask.
 #[derive(Debug, Drop)]
 pub enum Asked {
-    /// A negative record that is remembered covers the identifier.
+    /// The outcome: a negative record in the cache covers the identifier.
     Answer(Outcome),
-    /// A lookup waits for the reply to this request.
+    /// A lookup is pending under this ticket; this is its first request, to be sent.
     Sent(Ticket, Outgoing),
 }
 
@@ -81,10 +81,10 @@ pub enum AskError {
     Memory,
 }
 
-/// Why a datagram is ignored, in the order in which it is tested.
+/// Why a datagram is ignored, in the order of the tests.
 #[derive(Clone, Copy, Debug, PartialEq, Eq, Error)]
 pub enum Ignored {
-    /// It is no Map-Referral that can be read.
+    /// It isn't a Map-Referral that can be read.
     #[error("1 Undecodable")]
     Undecodable,
     /// No pending lookup's last request has its nonce.
@@ -107,13 +107,13 @@ pub enum Ignored {
 /// Why a lookup ends without an answer.
 #[derive(Clone, Copy, Debug, PartialEq, Eq, Error)]
 pub enum Why {
-    /// Each server of the current set was asked twice, and no usable reply came in time, or before it was hastened.
+    /// Each server of the current set was asked twice, and no usable reply came in time, or before hastening.
     #[error("1 NoReply")]
     NoReply,
-    /// A referral isn't to a longer prefix than the referral before it.
+    /// A referral's prefix isn't longer than that of the referral before it.
     #[error("2 Loop")]
     Loop,
-    /// A server isn't in charge of the identifier, and the lookup can't start again at the root.
+    /// A server isn't authoritative for the identifier, and the lookup can't start again at the root.
     #[error("3 NotAuthoritative")]
     NotAuthoritative,
     /// A request was to be sent and no nonce is left.
@@ -121,28 +121,28 @@ pub enum Why {
     Exhausted,
 }
 
-/// What comes of a datagram.
+/// The result of a datagram.
 #[derive(Debug, Drop)]
 pub enum Heard {
-    /// Nothing: it is no reply that a pending lookup can use.
+    /// The datagram is ignored: it isn't a reply that a pending lookup can use.
     Ignored(Ignored),
     /// The lookup goes on with this request.
     Followed(Ticket, Outgoing),
     /// The lookup ends with this outcome.
     Answer(Ticket, Outcome),
-    /// The lookup ends without one.
+    /// The lookup ends without an outcome.
     GaveUp(Ticket, Why),
 }
 
-/// What comes of a tick, or of a lookup that is hastened.
+/// The result of a tick, or of hastening a lookup.
 #[derive(Debug, Drop)]
 pub enum Ticked {
-    /// No pending lookup's deadline has come; or none has the nonce that is hastened.
+    /// No pending lookup's deadline has come; or no lookup has the nonce to hasten.
     Nothing,
     /// A lookup goes on with this request.
     Sent(Ticket, Outgoing),
     /// A lookup ends with this outcome.
     Answer(Ticket, Outcome),
-    /// A lookup ends without one.
+    /// A lookup ends without an outcome.
     GaveUp(Ticket, Why),
 }

@@ -1,5 +1,5 @@
-//! One step of a resolver, whichever of its calls it is: what it is called for, what it answers, and what that makes of
-//! its lookups (RFC 8111, section 7.3).
+//! One step of a resolver, whichever call it is: the input, the reply, and the progress of the pending lookups (RFC
+//! 8111, section 7.3).
 
 ghost use Rattle.std.specs.Prelude.{◌≡◌, ◌≢◌, Ok, Err, IfOk, OnOk, OnErr};
 ghost use Rattle.ddt_resolver.specs.State.{moved};
@@ -14,21 +14,21 @@ use ddt_path::{Locator, Outcome, Xeid};
 use ddt_trie::PrefixMap;
 use std::alloc::AllocError;
 
-/// What a resolver is called for.
+/// The input of a step.
 #[derive(Clone, Copy, Debug)]
 pub enum Input<'a> {
-    /// Somebody asks for an identifier.
+    /// An ask for an identifier.
     Ask(Xeid),
-    /// A datagram of these bytes has come from a source, at whose UDP port 4342 it was sent: any other its caller drops.
+    /// A datagram from a source, with its bytes. Its UDP source port is 4342: the caller drops any other.
     Datagram(Locator, &'a [u8]),
-    /// It is time to look for a lookup whose deadline has come.
+    /// A tick, for a lookup whose deadline has come.
     Tick,
 }
 
-/// What it answers.
+/// The reply of a step.
 #[derive(Debug, Drop)]
 pub enum Reply {
-    /// To an ask. For want of memory a step fails, so this is never 3 Memory.
+    /// To an ask. Never 3 Memory: a step that is out of memory fails.
     ToAsk(Result<Asked, AskError>),
     /// To a datagram.
     ToDatagram(Heard),
@@ -36,21 +36,21 @@ pub enum Reply {
     ToTick(Ticked),
 }
 
-/// What a step makes of the pending lookups.
+/// The progress of the pending lookups in a step.
 #[derive(Debug, Drop)]
 pub enum Progress {
-    /// All stay as they are: an ask was answered from the cache or refused, a datagram was ignored, or no deadline has
-    /// come.
+    /// All lookups stay as they are: an ask was answered from the cache or refused, a datagram was ignored, or no
+    /// deadline has come.
     Stays,
-    /// The lookup of a ticket starts, or goes on, with this request.
+    /// The lookup of a ticket starts or goes on with this request.
     Sends(Ticket, Outgoing),
-    /// The lookup of a ticket ends: with its outcome, or with the reason why there is none.
+    /// The lookup of a ticket ends with an outcome, or with the reason why there is none.
     Ends(Ticket, Result<Outcome, Why>),
 }
 
 impl Reply {
-    /// What the step has made of the pending lookups. The answer to an ask, and why something was refused or ignored, is
-    /// lost here.
+    /// The progress of the pending lookups. It leaves out an answer from the cache, and why an ask was refused or a
+    /// datagram ignored.
     pub fn progress(self) -> Progress
         ensures { result ≡ progress_of self }
     {
@@ -103,13 +103,13 @@ fn after_tick(ticked: Ticked) -> Progress
 }
 
 impl<M: PrefixMap<Entry>> Resolver<M> {
-    /// Does what it is called for at `now`, in milliseconds, as `ask`, `datagram` and `tick` say (RFC 8111, section 7.3).
-    /// The reply has what they refuse: an ask as 1 TooMany or 2 Exhausted, a datagram as 1 Undecodable to 6 NoServers;
-    /// and a lookup ends with an outcome or as 1 NoReply to 4 Exhausted. A tick serves one lookup, so it is to be done
-    /// again until it answers Nothing.
+    /// Does one step at `now`, in milliseconds: calls `ask`, `datagram` or `tick` (RFC 8111, section 7.3). The reply
+    /// has their refusals: of an ask 1 TooMany or 2 Exhausted, of a datagram 1 Undecodable to 6 NoServers. A lookup
+    /// ends with an outcome or as 1 NoReply to 4 Exhausted. A tick handles one lookup, so the caller repeats it until
+    /// it returns Nothing.
     ///
-    /// It fails only if out of memory, where a request is to be sent or a record to be added; then nothing changes but
-    /// the time.
+    /// Fails only if out of memory, when a request is to be sent or a record to be added; then nothing changes but the
+    /// time.
     pub fn step(&mut self, now: Moment, input: Input<'_>) -> Result<Reply, AllocError>
         ensures step { IfOk result (λ reply. Step (moved now self.old) (call_of input.entry) self.new reply) }
         ensures unchanged { OnErr result (self.new ≡ moved now self.old) }
@@ -123,7 +123,7 @@ impl<M: PrefixMap<Entry>> Resolver<M> {
     }
 }
 
-/// The reply to an ask; a step fails where an ask is refused as 3 Memory.
+/// The reply to an ask; fails if the ask is refused as 3 Memory.
 fn unless_out_of_memory(answer: Result<Asked, AskError>) -> Result<Reply, AllocError>
     ensures reply { IfOk result (λ reply. reply ≡ ToAsk answer) }
     ensures answered { OnOk result (answer ≢ Err Memory) }

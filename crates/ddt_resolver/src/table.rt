@@ -1,5 +1,5 @@
-//! The pending lookups and the nonces of their requests. A lookup is found by its nonce, and the first that is due by
-//! its place, with no walk.
+//! The table of pending lookups and the nonces of their requests. A lookup is found by its nonce, and the first that is
+//! due is the first of the table, with no walk.
 
 ghost use Rattle.std.specs.Prelude.{◌≡◌, ◌≢◌, ◌<◌, ◌≤◌, ◌+◌, ℕ, None, Some, IsTrue, IfSome, IfNone, OnOk, OnSome};
 ghost use Rattle.std.specs.FinMap as map;
@@ -7,11 +7,11 @@ ghost use Rattle.std.specs.BTreeMap as btree;
 ghost use Rattle.std.specs.Ordering.{nat_cmp};
 ghost use Rattle.slab.specs.Slab.{get as in_slot};
 ghost use Rattle.ddt_resolver.specs.declared.pending.Pending.{Pending as APending};
-ghost use Rattle.ddt_resolver.specs.Waiting.{Waiting as AWaiting};
+ghost use Rattle.ddt_resolver.specs.TicketedLookup.{TicketedLookup as ATicketedLookup};
 ghost use Rattle.ddt_resolver.specs.Table.{IsUnknown, HasNonce, IsNext, IsLeastDue, IsLeastDeadline, IsNoneDue};
 
 use crate::pending::Pending;
-use crate::waiting::Waiting;
+use crate::ticketed_lookup::TicketedLookup;
 use slab::Slab;
 use std::alloc::{AllocError, Global};
 use std::collections::BTreeMap;
@@ -20,10 +20,10 @@ use std::marker::Model;
 /// The pending lookups. Contracts see them as a finite map by ticket, with the nonce of the next request.
 #[derive(Drop)]
 pub(crate) struct Table {
-    /// Each lookup with its ticket, in a slot.
-    lookups: Slab<Waiting>,
-    /// The slot of each lookup by the nonce of its last request. The next nonce may lead to any slot: it has an entry
-    /// so that nothing is allocated once its request is sent.
+    /// The lookups with their tickets, each in a slot.
+    lookups: Slab<TicketedLookup>,
+    /// The slot of each lookup, by the nonce of its last request. The next nonce may have an entry too, with any slot,
+    /// so that nothing is allocated after its request is sent.
     slots: BTreeMap<u64, usize>,
     /// The nonce of the next request. Deadlines rise with nonces, so the lookup with the least nonce is due first.
     next: u64,
@@ -54,7 +54,7 @@ impl Model for Table {
 }
 
 impl Table {
-    /// A table with no lookup; the first request gets this nonce.
+    /// Creates a table with no lookup; the first request gets the nonce `seed`.
     pub(crate) fn new(alloc: Global, seed: u64) -> Table
         ensures lookups { result.lookups ≡ map.empty }
         ensures next { result.next ≡ seed }
@@ -66,14 +66,14 @@ impl Table {
         }
     }
 
-    /// How many lookups are pending.
+    /// The number of pending lookups.
     pub(crate) fn len(&self) -> usize
         ensures { result ≡ map.len self.now.lookups }
     {
         self.lookups.len()
     }
 
-    /// The nonce of the next request; the last one is never sent.
+    /// The nonce of the next request; `u64::MAX` is never sent.
     pub(crate) fn next_nonce(&self) -> u64
         ensures { result ≡ self.now.next }
     {
@@ -95,7 +95,7 @@ impl Table {
         }
     }
 
-    /// Of the lookups whose deadline is at or before a time, that whose last request has the least nonce, with its
+    /// The lookup with the least nonce of those whose deadline is at or before `time`, in milliseconds, with its
     /// ticket.
     pub(crate) fn due(&self, time: u64) -> Option<(u64, Pending)>
         ensures found { IfSome result (λ d. map.get self.now.lookups d.0 ≡ Some d.1) }
@@ -115,7 +115,7 @@ impl Table {
         }
     }
 
-    /// The least deadline of the lookups, in milliseconds; None where there is no lookup.
+    /// The least deadline of the lookups, in milliseconds; None if there is no lookup.
     pub(crate) fn next_deadline(&self) -> Option<u64>
         ensures least { IfSome result (IsLeastDeadline self.now.lookups) }
         ensures none { IfNone result ((u : ℕ) → map.get self.now.lookups u ≡ None) }
@@ -147,7 +147,7 @@ impl Table {
         }
     }
 
-    /// Makes room for the next nonce. It fails only if out of memory.
+    /// Makes room for the next nonce. Fails only if out of memory.
     pub(crate) fn prepare(&mut self) -> Result<(), AllocError>
         ensures lookups { self.new.lookups ≡ self.old.lookups }
         ensures next { self.new.next ≡ self.old.next }
@@ -160,7 +160,7 @@ impl Table {
         }
     }
 
-    /// Makes room for one more lookup and for the next nonce. It fails only if out of memory.
+    /// Makes room for one more lookup and for the next nonce. Fails only if out of memory.
     pub(crate) fn reserve(&mut self) -> Result<(), AllocError>
         ensures lookups { self.new.lookups ≡ self.old.lookups }
         ensures next { self.new.next ≡ self.old.next }
@@ -171,7 +171,7 @@ impl Table {
         self.prepare()
     }
 
-    /// Adds a lookup, whose request is sent, under a ticket that isn't in use. It allocates nothing: there is room.
+    /// Adds a lookup, whose request is sent, under a ticket that isn't in use. There is room, so it allocates nothing.
     pub(crate) fn add(&mut self, ticket: u64, lookup: Pending)
         requires ticket { map.get self.old.lookups ticket ≡ None }
         requires next { IsNext self.old lookup }
@@ -180,13 +180,15 @@ impl Table {
         ensures lookups { self.new.lookups ≡ map.insert self.old.lookups ticket lookup }
         ensures next { self.new.next ≡ self.old.next + 1 }
     {
-        let slot = self.lookups.insert_reserved(Waiting { ticket, lookup });
+        let slot = self
+            .lookups
+            .insert_reserved(TicketedLookup { ticket, lookup });
         note(&mut self.slots, self.next, slot);
         self.next += 1;
     }
 
-    /// Puts a lookup, whose request is sent, in the place of that whose last request has this nonce. It allocates
-    /// nothing: there is room for its own nonce.
+    /// Replaces the lookup whose last request has this nonce by a lookup whose request is sent. There is room for the
+    /// new nonce, so it allocates nothing.
     pub(crate) fn replace(&mut self, nonce: u64, lookup: Pending)
         requires there { (t : ℕ) × HasNonce self.old.lookups t nonce }
         requires next { IsNext self.old lookup }
@@ -200,8 +202,8 @@ impl Table {
         }
     }
 
-    /// Takes out the lookup whose last request has this nonce.
-    pub(crate) fn take(&mut self, nonce: u64) -> Option<Waiting>
+    /// Removes the lookup whose last request has this nonce, and returns it with its ticket.
+    pub(crate) fn take(&mut self, nonce: u64) -> Option<TicketedLookup>
         ensures found { IfSome result (λ w. map.get self.old.lookups w.ticket ≡ Some w.lookup) }
         ensures nonce { IfSome result (λ w. w.lookup.nonce ≡ nonce) }
         ensures only { IfSome result (λ w. (t : ℕ) → HasNonce self.old.lookups t nonce → w.ticket ≡ t) }
@@ -221,7 +223,7 @@ impl Table {
         }
     }
 
-    /// Takes out the lookup of a ticket, and says whether there was one. It walks over the lookups.
+    /// Removes the lookup of a ticket, and returns whether there was one. It walks over the lookups.
     pub(crate) fn cancel(&mut self, ticket: u64) -> bool
         ensures removed { self.new.lookups ≡ map.remove self.old.lookups ticket }
         ensures next { self.new.next ≡ self.old.next }
@@ -235,7 +237,7 @@ impl Table {
 }
 
 /// The lookup in a slot, with its ticket.
-fn ticket_and_lookup(lookups: &Slab<Waiting>, slot: usize) -> Option<(u64, Pending)>
+fn ticket_and_lookup(lookups: &Slab<TicketedLookup>, slot: usize) -> Option<(u64, Pending)>
     ensures found { IfSome result (λ f. in_slot lookups.now slot ≡ Some (record { ticket = f.0; lookup = f.1 })) }
     ensures none { IfNone result (in_slot lookups.now slot ≡ None) }
 {
@@ -245,7 +247,7 @@ fn ticket_and_lookup(lookups: &Slab<Waiting>, slot: usize) -> Option<(u64, Pendi
     }
 }
 
-/// Notes the slot of a nonce. It allocates nothing: the nonce has an entry.
+/// Sets the slot of a nonce. The nonce has an entry, so it allocates nothing.
 fn note(slots: &mut BTreeMap<u64, usize>, nonce: u64, slot: usize)
     requires { btree.get nat_cmp slots.old nonce ≢ None }
     ensures here { btree.get nat_cmp slots.new nonce ≡ Some slot }
@@ -256,10 +258,10 @@ fn note(slots: &mut BTreeMap<u64, usize>, nonce: u64, slot: usize)
 }
 
 /// The nonce of the last request of the lookup of a ticket.
-fn nonce_of(lookups: &Slab<Waiting>, ticket: u64) -> Option<u64>
-    ensures found { IfSome result (λ nonce. (slot : ℕ) × (w : AWaiting) × (in_slot lookups.now slot ≡ Some w)
+fn nonce_of(lookups: &Slab<TicketedLookup>, ticket: u64) -> Option<u64>
+    ensures found { IfSome result (λ nonce. (slot : ℕ) × (w : ATicketedLookup) × (in_slot lookups.now slot ≡ Some w)
         × (w.ticket ≡ ticket) × (w.lookup.nonce ≡ nonce)) }
-    ensures none { IfNone result ((slot : ℕ) (w : AWaiting) → in_slot lookups.now slot ≡ Some w
+    ensures none { IfNone result ((slot : ℕ) (w : ATicketedLookup) → in_slot lookups.now slot ≡ Some w
         → w.ticket ≢ ticket) }
 {
     for (_slot, waiting) in lookups.iter() {

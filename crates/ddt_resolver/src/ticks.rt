@@ -1,5 +1,5 @@
-//! A tick: of the lookups whose deadline has come, the one that waits longest goes on or ends. And a lookup that is
-//! hastened goes on or ends at once.
+//! Ticks and hastening. At a tick the lookup that has waited longest, of those whose deadline has come, goes on or
+//! ends; a lookup that is hastened goes on or ends at once.
 
 ghost use Rattle.std.specs.Prelude.{◌≡◌, ◌<◌, ℕ, Some, IfSome, IfNone, IfOk, OnErr};
 ghost use Rattle.std.specs.FinMap as map;
@@ -20,12 +20,13 @@ use ddt_trie::PrefixMap;
 use std::alloc::AllocError;
 
 impl<M: PrefixMap<Entry>> Resolver<M> {
-    /// Lets the time go on to `now`. Of the lookups whose deadline has come, that whose last request has the least
-    /// nonce goes on or ends: the same server gets a second request, then the next server a first. Where none is left
-    /// it ends as NotRegistered where a server of the set has said so, else as 1 NoReply; 4 Exhausted where no nonce is
-    /// left. Nothing is saved. It is to be called again until it answers Nothing.
+    /// Moves the time to `now` if `now` is later. Of the lookups whose deadline has come, the one whose last request
+    /// has the least nonce goes on or ends. The same server gets a second request, then the next server its first.
+    /// After the last server the lookup ends: as NotRegistered if a server of the set has said so, otherwise as 1
+    /// NoReply. It ends as 4 Exhausted if no nonce is left. Nothing is saved. The caller repeats the call until it
+    /// returns Nothing.
     ///
-    /// It fails only if out of memory, where a request is to be sent; then nothing changes but the time.
+    /// Fails only if out of memory, when a request is to be sent; then nothing changes but the time.
     pub fn tick(&mut self, now: Moment) -> Result<Ticked, AllocError>
         ensures step { IfOk result (λ ticked. TickStep (moved now self.old) self.new ticked) }
         ensures unchanged { OnErr result (self.new ≡ moved now self.old) }
@@ -35,12 +36,12 @@ impl<M: PrefixMap<Entry>> Resolver<M> {
         self.take_due()
     }
 
-    /// Lets the time go on to `now`. The pending lookup whose last request has this nonce goes on or ends at once, as by
-    /// a tick that finds it due, whether its deadline has come or not: the same server gets a second request, then the
-    /// next server a first; where none is left it ends. Replies to its earlier requests are then ignored as
-    /// 2 UnknownNonce. Nothing where no pending lookup has the nonce.
+    /// Moves the time to `now` if `now` is later. The pending lookup whose last request has this nonce goes on or ends
+    /// at once, as at a tick, whether its deadline has come or not. The same server gets a second request, then the
+    /// next server its first; after the last server the lookup ends. Replies to its earlier requests are then ignored
+    /// as 2 UnknownNonce. Returns Nothing if no pending lookup has the nonce.
     ///
-    /// It fails only if out of memory, where a request is to be sent; then nothing changes but the time.
+    /// Fails only if out of memory, when a request is to be sent; then nothing changes but the time.
     pub fn hasten(&mut self, now: Moment, nonce: u64) -> Result<Ticked, AllocError>
         ensures step { IfOk result (λ ticked. HastenStep (moved now self.old) nonce self.new ticked) }
         ensures unchanged { OnErr result (self.new ≡ moved now self.old) }
@@ -50,7 +51,7 @@ impl<M: PrefixMap<Entry>> Resolver<M> {
         self.hasten_now(nonce)
     }
 
-    /// The same at its time.
+    /// Hastens a lookup at the current time.
     fn hasten_now(&mut self, nonce: u64) -> Result<Ticked, AllocError>
         ensures step { IfOk result (λ ticked. HastenStep self.old nonce self.new ticked) }
         ensures unchanged { OnErr result (self.new ≡ self.old) }
@@ -62,8 +63,7 @@ impl<M: PrefixMap<Entry>> Resolver<M> {
         }
     }
 
-    /// The pending lookup whose last request has this nonce, with the number of its ticket; None where no pending
-    /// lookup has it.
+    /// The pending lookup whose last request has this nonce, with the number of its ticket; None if there is none.
     pub fn lookup_with(&self, nonce: u64) -> Option<(u64, Pending)>
         ensures found { IfSome result (λ found. map.get self.now.pending found.0 ≡ Some found.1) }
         ensures nonce { IfSome result (λ found. found.1.nonce ≡ nonce) }
@@ -72,7 +72,7 @@ impl<M: PrefixMap<Entry>> Resolver<M> {
         self.table.with_nonce(nonce)
     }
 
-    /// The tick at its time.
+    /// The tick at the current time.
     fn take_due(&mut self) -> Result<Ticked, AllocError>
         ensures step { IfOk result (λ ticked. TickStep self.old self.new ticked) }
         ensures unchanged { OnErr result (self.new ≡ self.old) }
@@ -84,7 +84,7 @@ impl<M: PrefixMap<Entry>> Resolver<M> {
         }
     }
 
-    /// The lookup that is due.
+    /// The lookup that goes on at a tick, with the number of its ticket; None if no deadline has come.
     fn due(&self) -> Option<(u64, Pending)>
         ensures found { IfSome result (λ d. IsDue self.now d.0 d.1) }
         ensures none { IfNone result ((t : ℕ) (l : APending) → map.get self.now.pending t ≡ Some l
@@ -94,7 +94,7 @@ impl<M: PrefixMap<Entry>> Resolver<M> {
         self.table.due(time)
     }
 
-    /// A pending lookup goes on or ends without a reply.
+    /// Lets a pending lookup go on or end without a reply.
     fn go_on(&mut self, ticket: u64, lookup: &Pending) -> Result<Ticked, AllocError>
         requires { map.get self.old.pending ticket ≡ Some lookup.now }
         ensures on { IfOk result (λ ticked. GoOn self.old ticket lookup.now self.new ticked) }
@@ -103,14 +103,14 @@ impl<M: PrefixMap<Entry>> Resolver<M> {
         ensures nonce { OnErr result (self.old.next < last_nonce) }
     {
         self.in_order();
-        if !lookup.second {
+        if !lookup.is_retry {
             return self.try_on(ticket, &lookup.tried_again());
         }
-        if lookup.place + 1 < lookup.servers.as_slice().len() {
+        if lookup.server_index + 1 < lookup.servers.as_slice().len() {
             return self.try_on(ticket, &lookup.at_next());
         }
         self.close(lookup.nonce);
-        match lookup.kept {
+        match lookup.last_not_registered {
             Some(told) => Ok(Ticked::Answer(
                 Ticket::of(ticket),
                 Outcome::NotRegistered {
@@ -122,7 +122,7 @@ impl<M: PrefixMap<Entry>> Resolver<M> {
         }
     }
 
-    /// The lookup of a ticket goes on as this one, or ends where no nonce is left.
+    /// Sends the next request of a ticket's lookup, which is `lookup` from now on; ends it if no nonce is left.
     fn try_on(&mut self, ticket: u64, lookup: &Pending) -> Result<Ticked, AllocError>
         requires there { HasNonce self.old.pending ticket lookup.now.nonce }
         requires lookup { IsLookup lookup.now }
@@ -130,11 +130,11 @@ impl<M: PrefixMap<Entry>> Resolver<M> {
         ensures unchanged { OnErr result (self.new ≡ self.old) }
         ensures nonce { OnErr result (self.old.next < last_nonce) }
     {
-        if self.next_nonce() == u64::MAX {
+        if !self.has_nonce_left() {
             self.close(lookup.nonce);
             return Ok(Ticked::GaveUp(Ticket::of(ticket), Why::Exhausted));
         }
-        let outgoing = self.lodge(ticket, lookup, &Change::Keep)?;
+        let outgoing = self.send_next(ticket, lookup, &Change::Keep)?;
         Ok(Ticked::Sent(Ticket::of(ticket), outgoing))
     }
 }

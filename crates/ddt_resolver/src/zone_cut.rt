@@ -1,4 +1,4 @@
-//! A server speaks of the zone by which it was asked, and of nothing beyond it.
+//! Cutting a reply to the zone that its server was asked for: a server's reply counts for nothing beyond that zone.
 
 ghost use Rattle.std.specs.Prelude.{◌≡◌, IfOk, IfSome, IfNone, OnErr};
 ghost use Rattle.ddt_path.specs.declared.record.ReferralRecord.{ReferralRecord as RecordValue};
@@ -14,25 +14,27 @@ use ddt_trie::PrefixMap;
 use ddt_wire::write_referral;
 use std::alloc::AllocError;
 
-/// A reply that reaches beyond the zone by which its server was asked.
+/// A reply whose prefix reaches beyond the zone that its server was asked for.
 #[derive(Clone, Copy, Debug)]
 struct Wide {
     /// The lookup that it is for.
     lookup: Pending,
-    /// What it says.
+    /// The reply's record.
     told: ReferralRecord,
     /// The zone.
     zone: Prefix,
 }
 
 impl<M: PrefixMap<Entry>> Resolver<M> {
-    /// What is to be heard in the place of a datagram from a source: None for the datagram as it came. A Map-Referral
-    /// that replies to a pending lookup's last request, from the server that was asked, is about the identifier, and
-    /// whose prefix doesn't lie inside the zone by which the server was asked, is cut: the same record for that zone.
-    /// The zone is that of the last referral that was followed, or of the remembered entry at which the lookup started;
-    /// the root is asked by none. NOT-AUTHORITATIVE is never cut.
+    /// The bytes to handle in place of a datagram from a source; None to handle the datagram as it is. A reply whose
+    /// prefix isn't inside the zone that its server was asked for is cut: the bytes are the same record for that zone.
+    /// This applies to a Map-Referral for a pending lookup's last request, from the server that was asked, that is
+    /// about the identifier.
     ///
-    /// It fails only if out of memory, for a reply that is to be cut.
+    /// The zone is that of the last referral that was followed, or of the cache entry at which the lookup started; the
+    /// root is asked for no zone. NOT-AUTHORITATIVE is never cut.
+    ///
+    /// Fails only if out of memory, for a reply that is to be cut.
     pub fn cut_to_zone(
         &self,
         source: Locator,
@@ -55,7 +57,7 @@ impl<M: PrefixMap<Entry>> Resolver<M> {
         }
     }
 
-    /// The wide reply that a datagram from a source is.
+    /// The reply in a datagram from a source, if it reaches beyond its zone; otherwise None.
     fn wide(&self, source: Locator, bytes: &[u8]) -> Option<Wide>
         ensures wide { IfSome result (λ w. IsWide self.now source bytes.now w.lookup w.told w.zone) }
         ensures none { IfNone result ((l : APending) (rec : RecordValue) (zone : _)
@@ -83,7 +85,7 @@ impl<M: PrefixMap<Entry>> Resolver<M> {
     }
 }
 
-/// The zone by which a lookup asks, where a record of a server in charge reaches beyond it.
+/// The zone that a lookup's server was asked for, if the record reaches beyond it; None for NOT-AUTHORITATIVE.
 fn zone_beyond(lookup: &Pending, told: &ReferralRecord) -> Option<Prefix>
     ensures beyond { IfSome result (λ zone. IsBeyond lookup.now told.now zone) }
     ensures none { IfNone result ((zone : _) → IsBeyond lookup.now told.now zone → ⊥) }

@@ -1,5 +1,5 @@
-//! Worked values, and each kind of call in random order beside a plain cache. The batteries are generic: each runs on
-//! every map from prefixes. `full` has the tests of a full cache.
+//! Tests of a cache: worked values, and random calls compared with a plain cache. The batteries are generic, and run on
+//! each map from prefixes. `full` has the tests of a full cache.
 
 mod full;
 mod plain;
@@ -49,7 +49,7 @@ fn at(rt: &impl Abort, millis: u64) -> Moment {
     Moment::at(millis).expect(rt, "past the last moment")
 }
 
-/// What a referral says: its action, its prefix as a text, how many minutes it may be kept, and its locators.
+/// A record: its action, its prefix as a text, its TTL in minutes, and its locators.
 #[derive(Clone, Copy)]
 struct Said(Action, &'static str, u32, &'static [Locator]);
 
@@ -80,7 +80,7 @@ fn rooted<M: PrefixMap<Entry>>(alloc: Global, rt: &impl Abort) -> Cache<M> {
     Cache::new(alloc, roots(rt))
 }
 
-/// What `find` answers, by value.
+/// The result of `find`, copied.
 fn found<M: PrefixMap<Entry>>(
     rt: &impl Abort,
     cache: &mut Cache<M>,
@@ -102,7 +102,7 @@ fn found_copied<M: PrefixMap<Entry>>(
 
 // Each call on a cache is made and judged in a function of its own, so that the proof of a worked example is short.
 
-/// What `save` answers; nothing where it is out of memory.
+/// The result of `save`; None if out of memory.
 fn tried<M: PrefixMap<Entry>>(
     rt: &impl Abort,
     cache: &mut Cache<M>,
@@ -142,7 +142,7 @@ fn finds_entry<M: PrefixMap<Entry>>(
     same(rt, &found(rt, cache, millis, x), &entry, &millis);
 }
 
-/// So many entries are live.
+/// Asserts the number of live entries.
 fn counts<M: PrefixMap<Entry>>(rt: &impl Abort, cache: &mut Cache<M>, millis: u64, count: usize) {
     same(rt, &cache.len(at(rt, millis)), &count, &millis);
 }
@@ -151,14 +151,14 @@ fn forgets<M: PrefixMap<Entry>>(rt: &impl Abort, cache: &mut Cache<M>, prefix: P
     same(rt, &cache.forget(prefix), &went, &prefix);
 }
 
-/// Milliseconds, and whether there is a moment of so many.
+/// A number of milliseconds, and whether a moment has so many.
 const MOMENTS: &[(u64, bool)] = &[
     (0, true),
     (9_223_372_036_854_775_807, true),
     (9_223_372_036_854_775_808, false),
 ];
 
-/// The milliseconds of a moment of so many, where there is one.
+/// The milliseconds of the moment of so many; None if there is none.
 fn millis_of(millis: u64) -> Option<u64> {
     Some(Moment::at(millis)?.millis())
 }
@@ -171,20 +171,20 @@ fn the_last_moment_is_the_last(rt: HostRuntime) {
     }
 }
 
-/// A call on a cache whose root's server is at 127.0.0.1, and what it answers. Prefixes and identifiers are texts.
+/// A call on a cache whose root's server is at 127.0.0.1, and its result. Prefixes and identifiers are texts.
 #[derive(Clone, Copy)]
 enum Step {
-    /// A save, and its answer.
+    /// A save, and its result.
     Save(Said, Saved),
-    /// The prefix of the entry that `find` lends for an identifier.
+    /// The prefix of the entry that `find` borrows for an identifier.
     Find(&'static str, &'static str),
     /// The prefix, the action, the locators and the end of that entry.
     FindEntry(&'static str, &'static str, Action, &'static [Locator], u64),
-    /// The action of the entry that `find_copied` answers.
+    /// The action of the entry that `find_copied` returns.
     FindAction(&'static str, Action),
     /// Its end.
     FindEnd(&'static str, u64),
-    /// How many entries are live.
+    /// The number of live entries.
     Len(usize),
     /// Whether there was an entry to forget.
     Forget(&'static str, bool),
@@ -198,7 +198,7 @@ enum Step {
 
 use Step::{Advance, Find, FindAction, FindEnd, FindEntry, Forget, Len, Purge, Roots, Save, Time};
 
-/// The call is given a moment, in milliseconds, where it takes one.
+/// A moment, in milliseconds, and the call at it; a call that takes no moment ignores it.
 type Timed = (u64, Step);
 
 /// The end of the root's entry, which no moment reaches.
@@ -392,7 +392,7 @@ const THE_ROOT_STAYS: &[Timed] = &[
     (0, FindEnd("[0]10.0.0.0", LAST_MOMENT + 15 * MINUTE)),
 ];
 
-/// What each cache answers, whichever map keeps it.
+/// The calls and results of every cache, whichever map it is on.
 const WORKED: &[(&str, &[Timed])] = &[
     ("a referral ends after a day", A_REFERRAL),
     ("what is not saved", WHAT_IS_NOT_SAVED),
@@ -415,7 +415,7 @@ fn has_roots<M: PrefixMap<Entry>>(rt: &impl Abort, cache: &Cache<M>, roots: &[Lo
     cache.roots() == set(rt, roots)
 }
 
-/// Whether a call that finds an entry answers as it should.
+/// Whether a call that finds an entry has the expected result.
 fn is_found<M: PrefixMap<Entry>>(
     rt: &impl Abort,
     cache: &mut Cache<M>,
@@ -434,7 +434,7 @@ fn is_found<M: PrefixMap<Entry>>(
     }
 }
 
-/// Whether a cache answers a call as it should.
+/// Whether a call on a cache has the expected result.
 fn is_right<M: PrefixMap<Entry>>(
     rt: &impl Abort,
     cache: &mut Cache<M>,
@@ -479,7 +479,7 @@ fn a_cache_on_a_list_answers_the_worked_values(rt: HostRuntime) {
     battery::<ListMap<Entry>>(rt.alloc(), &rt)
 }
 
-/// What the records of random calls say: the actions, the minutes, and the locators.
+/// The actions, the TTLs in minutes, and the locators of the records in random calls.
 const ACTIONS: [Action; 6] = [
     Action::NodeReferral,
     Action::MsReferral,
@@ -500,7 +500,7 @@ fn any_record(rt: &impl Abort, dice: &mut Dice, prefix: Prefix) -> ReferralRecor
     record(action, prefix, ttl, set(rt, dice.one_of(&SERVERS)))
 }
 
-/// The prefixes and the identifiers that the random calls speak of.
+/// The prefixes and the identifiers in random calls.
 const PREFIXES: [&str; 10] = [
     "*",
     "[0/31]*",
@@ -546,7 +546,7 @@ fn finds_alike<M: PrefixMap<Entry>>(
     same(rt, &found_copied(rt, cache, now, x), &plain.find(x), &x);
 }
 
-/// One random call on a cache and on a plain one, whose answers are to agree.
+/// Makes one random call on a cache and on a plain one, and compares the results.
 fn one_call<M: PrefixMap<Entry>>(
     rt: &impl Abort,
     dice: &mut Dice,
@@ -576,7 +576,7 @@ fn one_call<M: PrefixMap<Entry>>(
     }
 }
 
-/// After each call all identifiers are found alike.
+/// Compares what both caches find for every identifier.
 fn all_found_alike<M: PrefixMap<Entry>>(rt: &impl Abort, cache: &mut Cache<M>, plain: &mut Plain) {
     for text in &XEIDS {
         let x = xeid(rt, text);
@@ -584,7 +584,7 @@ fn all_found_alike<M: PrefixMap<Entry>>(rt: &impl Abort, cache: &mut Cache<M>, p
     }
 }
 
-/// How long random calls wait for one another, in milliseconds, and how far their clocks go back.
+/// The milliseconds between random calls, and how far their clocks go back.
 const WAITS: [u64; 9] = [
     0,
     0,
@@ -636,7 +636,7 @@ fn a_cache_on_a_trie_answers_as_a_plain_one(rt: HostRuntime) {
     }
 }
 
-/// What is saved at moment 0, in this order: prefixes, and how many minutes they may be kept.
+/// The prefixes saved at moment 0, in this order, and their TTLs in minutes.
 const LISTED: &[(&str, u32)] = &[
     ("[7]10.0.0.0/8", 30),
     ("[7]10.1.0.0/16", 10),

@@ -1,5 +1,5 @@
-//! The tests of what a resolver follows and remembers: `cache` of ddt_cache, `resolver` of ddt_resolver.
-//! `comparison` is what all assert by.
+//! The tests of the cache (`cache`, of ddt_cache) and of the resolver (`resolver`, of ddt_resolver). `refused` has
+//! those of both when an allocation fails, and `comparison` the assertions of all.
 #![tactic(auto)]
 
 #[cfg(test)]

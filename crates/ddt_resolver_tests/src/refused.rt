@@ -1,11 +1,13 @@
-//! Memory is refused to a cache, a resolver and the side that ITRs see: all stays as it was, the time apart, and the
-//! next call does what this one was to do.
+//! A cache, a resolver and the messages of ITRs when an allocation fails: all stays as it was, except the time, and the
+//! next call does what the failed one would have done.
 //!
-//! What a resolver holds shows in what it answers afterwards: the same lines come as with ample memory, to the end of
-//! the schedule. `.ci/memory` runs each of these tests with each growth refused in turn.
+//! The state of a resolver shows in its later results: they are the same as with enough memory, to the end of the
+//! schedule. `.ci/memory` runs each of these tests with each growth refused in turn.
 
 use crate::comparison::same;
-use crate::resolver::calls::{Call, NOT_IN_CHARGE, ROOT, TEN, TO_TEN, Told, at, referral_record};
+use crate::resolver::calls::{
+    Call, NOT_IN_CHARGE, ROOT, SampleReferral, TEN, TO_TEN, at, referral_record,
+};
 use ddt_cache::{Cache, Entry, Saved};
 use ddt_ecm::read_request;
 use ddt_examples::bytes_of;
@@ -219,7 +221,7 @@ fn rooted(alloc: Global) -> Result<TrieResolver, Fail> {
     }
 }
 
-/// What is to come of a call; prefixes are texts. A ticket stands first, 0 where nothing was pending.
+/// The expected result of a call; prefixes are texts. The first number is a ticket, 0 if nothing was pending.
 #[derive(Clone, Copy, Debug)]
 enum Want {
     /// A request to a server, under a nonce.
@@ -230,9 +232,9 @@ enum Want {
     Nothing,
 }
 
-/// What came of a call.
+/// The result of a call.
 #[derive(Clone, Copy, Debug, PartialEq)]
-enum Came {
+enum CallResult {
     Request(u64, Locator, u64),
     Hole(u64, Prefix),
     Registered(u64, Prefix),
@@ -241,33 +243,33 @@ enum Came {
     Nothing,
 }
 
-/// The same with prefixes for their texts.
-fn wanted(want: &Want) -> Result<Came, Fail> {
+/// The expected result as a result, with prefixes in place of their texts.
+fn wanted(want: &Want) -> Result<CallResult, Fail> {
     Ok(match want {
-        Want::Request(ticket, to, nonce) => Came::Request(*ticket, *to, *nonce),
-        Want::Hole(ticket, text) => Came::Hole(*ticket, parse_prefix(text.as_bytes())?),
+        Want::Request(ticket, to, nonce) => CallResult::Request(*ticket, *to, *nonce),
+        Want::Hole(ticket, text) => CallResult::Hole(*ticket, parse_prefix(text.as_bytes())?),
         Want::Registered(ticket, text) => {
-            Came::Registered(*ticket, parse_prefix(text.as_bytes())?)
+            CallResult::Registered(*ticket, parse_prefix(text.as_bytes())?)
         }
-        Want::GaveUp(ticket, why) => Came::GaveUp(*ticket, *why),
-        Want::Nothing => Came::Nothing,
+        Want::GaveUp(ticket, why) => CallResult::GaveUp(*ticket, *why),
+        Want::Nothing => CallResult::Nothing,
     })
 }
 
-fn request(ticket: Ticket, sent: &Outgoing) -> Result<Came, Fail> {
+fn request(ticket: Ticket, sent: &Outgoing) -> Result<CallResult, Fail> {
     let nonce = read_request(sent.bytes.as_slice())?.nonce();
-    Ok(Came::Request(ticket.number(), sent.to, nonce))
+    Ok(CallResult::Request(ticket.number(), sent.to, nonce))
 }
 
-fn outcome(ticket: u64, outcome: Outcome) -> Result<Came, Fail> {
+fn outcome(ticket: u64, outcome: Outcome) -> Result<CallResult, Fail> {
     match outcome {
-        Outcome::Hole { prefix } => Ok(Came::Hole(ticket, prefix)),
-        Outcome::Registered { prefix, .. } => Ok(Came::Registered(ticket, prefix)),
+        Outcome::Hole { prefix } => Ok(CallResult::Hole(ticket, prefix)),
+        Outcome::Registered { prefix, .. } => Ok(CallResult::Registered(ticket, prefix)),
         Outcome::NotRegistered { .. } => Err("another outcome".into()),
     }
 }
 
-/// An ask, once more where memory is refused: then as many lookups are pending as before.
+/// Asks, once more if memory is refused: then as many lookups are pending as before.
 fn asks(
     rt: &impl Abort,
     resolver: &mut TrieResolver,
@@ -294,7 +296,7 @@ fn is_as_before(rt: &impl Abort, resolver: &TrieResolver, now: Moment, pending: 
     );
 }
 
-fn after_ask(asked: &Asked) -> Result<Came, Fail> {
+fn after_ask(asked: &Asked) -> Result<CallResult, Fail> {
     match asked {
         Asked::Sent(ticket, sent) => request(*ticket, sent),
         Asked::Answer(answer) => outcome(0, *answer),
@@ -306,11 +308,11 @@ fn asked(
     resolver: &mut TrieResolver,
     now: Moment,
     text: &str,
-) -> Result<Came, Fail> {
+) -> Result<CallResult, Fail> {
     after_ask(&asks(rt, resolver, now, parse_xeid(text.as_bytes())?)?)
 }
 
-/// A datagram, once more where memory is refused: then as many lookups are pending as before.
+/// Hands over a datagram, once more if memory is refused: then as many lookups are pending as before.
 fn hears(
     rt: &impl Abort,
     resolver: &mut TrieResolver,
@@ -328,12 +330,12 @@ fn hears(
     }
 }
 
-fn after_datagram(heard: &Heard) -> Result<Came, Fail> {
+fn after_datagram(heard: &Heard) -> Result<CallResult, Fail> {
     match heard {
         Heard::Followed(ticket, sent) => request(*ticket, sent),
         Heard::Answer(ticket, answer) => outcome(ticket.number(), *answer),
-        Heard::GaveUp(ticket, why) => Ok(Came::GaveUp(ticket.number(), *why)),
-        Heard::Ignored(why) => Ok(Came::Ignored(*why)),
+        Heard::GaveUp(ticket, why) => Ok(CallResult::GaveUp(ticket.number(), *why)),
+        Heard::Ignored(why) => Ok(CallResult::Ignored(*why)),
     }
 }
 
@@ -343,11 +345,11 @@ fn heard(
     now: Moment,
     from: Locator,
     bytes: &[u8],
-) -> Result<Came, Fail> {
+) -> Result<CallResult, Fail> {
     after_datagram(&hears(rt, resolver, now, from, bytes)?)
 }
 
-/// A tick, once more where memory is refused: then as many lookups are pending as before.
+/// Ticks, once more if memory is refused: then as many lookups are pending as before.
 fn ticks(rt: &impl Abort, resolver: &mut TrieResolver, now: Moment) -> Result<Ticked, AllocError> {
     let before = resolver.pending();
     match resolver.tick(now) {
@@ -359,21 +361,21 @@ fn ticks(rt: &impl Abort, resolver: &mut TrieResolver, now: Moment) -> Result<Ti
     }
 }
 
-fn after_tick(ticked: &Ticked) -> Result<Came, Fail> {
+fn after_tick(ticked: &Ticked) -> Result<CallResult, Fail> {
     match ticked {
         Ticked::Sent(ticket, sent) => request(*ticket, sent),
         Ticked::Answer(ticket, answer) => outcome(ticket.number(), *answer),
-        Ticked::GaveUp(ticket, why) => Ok(Came::GaveUp(ticket.number(), *why)),
-        Ticked::Nothing => Ok(Came::Nothing),
+        Ticked::GaveUp(ticket, why) => Ok(CallResult::GaveUp(ticket.number(), *why)),
+        Ticked::Nothing => Ok(CallResult::Nothing),
     }
 }
 
-fn ticked(rt: &impl Abort, resolver: &mut TrieResolver, now: Moment) -> Result<Came, Fail> {
+fn ticked(rt: &impl Abort, resolver: &mut TrieResolver, now: Moment) -> Result<CallResult, Fail> {
     after_tick(&ticks(rt, resolver, now)?)
 }
 
 /// The bytes of a Map-Referral, written once more where memory is refused.
-fn referral(alloc: Global, nonce: u64, told: &Told) -> Result<Vec<u8>, Fail> {
+fn referral(alloc: Global, nonce: u64, told: &SampleReferral) -> Result<Vec<u8>, Fail> {
     let record = referral_record(told)?;
     match write_referral(alloc, nonce, &record) {
         Ok(bytes) => Ok(bytes),
@@ -381,14 +383,14 @@ fn referral(alloc: Global, nonce: u64, told: &Told) -> Result<Vec<u8>, Fail> {
     }
 }
 
-/// What comes of a call.
+/// Makes a call, and returns its result.
 fn made(
     rt: &impl Abort,
     alloc: Global,
     resolver: &mut TrieResolver,
     now: Moment,
     call: &Call,
-) -> Result<Came, Fail> {
+) -> Result<CallResult, Fail> {
     match call {
         Call::Ask(text) => asked(rt, resolver, now, text),
         Call::Hear(from, nonce, told) | Call::HearCut(from, nonce, told) => {
@@ -399,19 +401,19 @@ fn made(
 }
 
 /// A hole, and a site that is acknowledged.
-const HOLE: Told = Told {
+const HOLE: SampleReferral = SampleReferral {
     action: Action::DelegationHole,
     prefix: "[0]10.2.0.0/15",
     servers: &[],
 };
 
-const SITE: Told = Told {
+const SITE: SampleReferral = SampleReferral {
     action: Action::MsAck,
     prefix: "[0]10.1.2.0/24",
     servers: &[TEN],
 };
 
-/// Moments in milliseconds, calls, what is to come of each, and how many lookups are pending then.
+/// Moments in milliseconds, calls, their expected results, and the number of pending lookups after each.
 const SCHEDULE: &[(u64, Call, Want, usize)] = &[
     (0, Call::Ask("[0]10.1.2.3"), Want::Request(1, ROOT, 1), 1),
     (0, Call::Ask("[0]10.2.0.1"), Want::Request(2, ROOT, 2), 2),
@@ -448,7 +450,7 @@ const SCHEDULE: &[(u64, Call, Want, usize)] = &[
     (6001, Call::Tick, Want::GaveUp(6, Why::NoReply), 0),
 ];
 
-fn is_wanted(rt: &impl Abort, came: Came, want: Came) {
+fn is_wanted(rt: &impl Abort, came: CallResult, want: CallResult) {
     same(rt, &came, &want, &"a call");
 }
 
@@ -469,8 +471,12 @@ fn a_schedule_goes_on_as_with_ample_memory(rt: HostRuntime) -> Result<(), Fail> 
 
 // ---- calls that are not made again
 
-/// What comes of an ask that isn't made again; None where memory is refused.
-fn asked_once(resolver: &mut TrieResolver, now: Moment, text: &str) -> Result<Option<Came>, Fail> {
+/// The result of an ask that isn't repeated; None if memory is refused.
+fn asked_once(
+    resolver: &mut TrieResolver,
+    now: Moment,
+    text: &str,
+) -> Result<Option<CallResult>, Fail> {
     match resolver.ask(now, parse_xeid(text.as_bytes())?) {
         Err(AskError::Memory) => Ok(None),
         asked => Ok(Some(after_ask(&asked?)?)),
@@ -483,7 +489,7 @@ fn heard_once(
     now: Moment,
     from: Locator,
     bytes: &[u8],
-) -> Result<Option<Came>, Fail> {
+) -> Result<Option<CallResult>, Fail> {
     match resolver.datagram(now, from, bytes) {
         Ok(heard) => Ok(Some(after_datagram(&heard)?)),
         Err(_refused) => Ok(None),
@@ -491,7 +497,7 @@ fn heard_once(
 }
 
 /// The same of a tick.
-fn ticked_once(resolver: &mut TrieResolver, now: Moment) -> Result<Option<Came>, Fail> {
+fn ticked_once(resolver: &mut TrieResolver, now: Moment) -> Result<Option<CallResult>, Fail> {
     match resolver.tick(now) {
         Ok(ticked) => Ok(Some(after_tick(&ticked)?)),
         Err(_refused) => Ok(None),
@@ -504,7 +510,7 @@ fn made_once(
     resolver: &mut TrieResolver,
     now: Moment,
     call: &Call,
-) -> Result<Option<Came>, Fail> {
+) -> Result<Option<CallResult>, Fail> {
     match call {
         Call::Ask(text) => asked_once(resolver, now, text),
         Call::Hear(from, nonce, told) | Call::HearCut(from, nonce, told) => {
@@ -515,7 +521,7 @@ fn made_once(
 }
 
 /// A referral of another child of the root.
-const TO_TWENTY: Told = Told {
+const TO_TWENTY: SampleReferral = SampleReferral {
     action: Action::NodeReferral,
     prefix: "[0]20.0.0.0/8",
     servers: &[TEN],

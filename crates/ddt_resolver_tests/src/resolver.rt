@@ -1,8 +1,8 @@
-//! Worked calls on a resolver: each is written as a line and compared. Random schedules beside a plain resolver stand
-//! in `fuzz/resolver_schedules`.
+//! Worked calls on a resolver: each result is written as a line and compared. Random schedules, compared with a plain
+//! resolver, are in `fuzz/resolver_schedules`.
 //!
-//! In reading order: `lines`, `calls`, `replies`, `limits`, `deadlines`, `crowded`, `refusals`, `steps`; `itr_side` is
-//! what ITRs see.
+//! In reading order: `lines`, `calls`, `replies`, `limits`, `deadlines`, `crowded`, `refusals`, `steps`; `itr_side` has
+//! the messages of ITRs.
 
 pub mod calls;
 mod crowded;

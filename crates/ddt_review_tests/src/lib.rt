@@ -1,6 +1,5 @@
-//! The tests of what reviews a register, a module for each crate: `faults` of ddt_faults, `organisations` of
-//! ddt_organisations, `pictures` of ddt_pictures, `report` of ddt_report, `seam` of ddt_seam, `sheets` of ddt_sheets,
-//! `warnings` of ddt_warnings.
+//! The tests of what reviews a register: `faults`, `sheets` and `warnings` of ddt_review, `organisations` and `seam` of
+//! ddt_organisations, `report` and `pictures` of ddt_report.
 //! `comparison` is what all assert by.
 #![tactic(auto)]
 

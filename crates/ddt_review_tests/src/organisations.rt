@@ -44,7 +44,7 @@ ms,[0]10.1.0.0/16,member,
 
 /// What is wrong, with the places of organisations from 0, and the rows of zones from 1.
 #[derive(Clone, Copy, Debug, PartialEq, Eq)]
-enum Told {
+enum FaultKind {
     RootNotRun,
     Inside(usize, u32),
     NobodyRuns(usize, u32),
@@ -53,47 +53,47 @@ enum Told {
 }
 
 /// Three registers, the group that is run from each, and what is wrong.
-const CASES: [([&str; 3], [&str; 3], &[Told]); 8] = [
+const CASES: [([&str; 3], [&str; 3], &[FaultKind]); 8] = [
     ([ROOT, REGION, MEMBER], ["root", "region", "member"], &[]),
     // Nobody runs the root, or the region's servers, or the member's.
     (
         [ROOT, REGION, MEMBER],
         ["other", "region", "member"],
-        &[Told::RootNotRun],
+        &[FaultKind::RootNotRun],
     ),
     (
         [ROOT, REGION, MEMBER],
         ["root", "other", "member"],
-        &[Told::NobodyRuns(0, 4)],
+        &[FaultKind::NobodyRuns(0, 4)],
     ),
     (
         [ROOT, REGION, MEMBER],
         ["root", "region", "other"],
-        &[Told::NobodyRuns(1, 6)],
+        &[FaultKind::NobodyRuns(1, 6)],
     ),
     // The register from which the region's servers are run has no zone of theirs.
     (
         [ROOT, MEMBER, REGION],
         ["root", "region", "member"],
-        &[Told::BadSeam(0, 1)],
+        &[FaultKind::BadSeam(0, 1)],
     ),
-    // The root's register says what is inside the zone that it delegates.
+    // The root's register has a zone inside the zone that it delegates.
     (
         [REGION, REGION, MEMBER],
         ["root", "region", "member"],
-        &[Told::Inside(0, 6)],
+        &[FaultKind::Inside(0, 6)],
     ),
     // Seams: the member has its servers in another place.
     (
         [ROOT, REGION, MOVED],
         ["root", "region", "member"],
-        &[Told::BadSeam(1, 2)],
+        &[FaultKind::BadSeam(1, 2)],
     ),
     // Two faults.
     (
         [REGION, MOVED, ROOT],
         ["region", "member", "other"],
-        &[Told::RootNotRun, Told::BadSeam(0, 1)],
+        &[FaultKind::RootNotRun, FaultKind::BadSeam(0, 1)],
     ),
 ];
 
@@ -117,24 +117,24 @@ fn organisation(alloc: Global, rows: &str, group: &str) -> Result<Organisation, 
 }
 
 /// A fault without the lines of its seam.
-fn without_lines(fault: &TreeFault) -> Told {
+fn without_lines(fault: &TreeFault) -> FaultKind {
     match fault {
-        TreeFault::RootNotRun => Told::RootNotRun,
-        TreeFault::Inside { organisation, row } => Told::Inside(*organisation, *row),
-        TreeFault::NobodyRuns { organisation, row } => Told::NobodyRuns(*organisation, *row),
+        TreeFault::RootNotRun => FaultKind::RootNotRun,
+        TreeFault::Inside { organisation, row } => FaultKind::Inside(*organisation, *row),
+        TreeFault::NobodyRuns { organisation, row } => FaultKind::NobodyRuns(*organisation, *row),
         TreeFault::BadSeam {
             organisation,
             other,
             lines: _lines,
-        } => Told::BadSeam(*organisation, *other),
+        } => FaultKind::BadSeam(*organisation, *other),
         TreeFault::TooManyRows {
             organisation,
             other,
-        } => Told::TooManyRows(*organisation, *other),
+        } => FaultKind::TooManyRows(*organisation, *other),
     }
 }
 
-fn all_told(alloc: Global, all: &[Organisation]) -> Result<Vec<Told>, Fail> {
+fn all_fault_kinds(alloc: Global, all: &[Organisation]) -> Result<Vec<FaultKind>, Fail> {
     let faults = tree_faults(alloc, all)?;
     Ok(
         faults
@@ -161,18 +161,23 @@ fn each_fault_of_organisations_is_told(rt: HostRuntime) -> Result<(), Fail> {
     let alloc = rt.alloc();
     for (registers, groups, faults) in &CASES {
         let all = organisations(alloc, registers, groups)?;
-        same(&rt, &all_told(alloc, &all)?.as_slice(), faults, groups);
+        same(
+            &rt,
+            &all_fault_kinds(alloc, &all)?.as_slice(),
+            faults,
+            groups,
+        );
     }
     Ok(())
 }
 
 #[test]
 fn no_organisation_makes_no_tree(rt: HostRuntime) -> Result<(), Fail> {
-    let told = all_told(rt.alloc(), &[])?;
+    let told = all_fault_kinds(rt.alloc(), &[])?;
     same(
         &rt,
         &told.as_slice(),
-        &[Told::RootNotRun].as_slice(),
+        &[FaultKind::RootNotRun].as_slice(),
         &"none",
     );
     Ok(())

@@ -1,5 +1,5 @@
-//! The tests of ddt_seam: pairs of registers in `pairs`, random ones beside plain bodies in `drawn`, and refused memory in
-//! `refused`.
+//! The tests of `ddt_organisations::seam`: pairs of registers in `pairs`, random ones beside plain bodies in `drawn`,
+//! and refused memory in `refused`.
 
 mod drawn;
 mod pairs;

@@ -1,4 +1,4 @@
-//! What a caller derives from the clauses of `PrefixMap` alone, whichever way the map is kept.
+//! What a caller derives from the clauses of `PrefixMap` alone, for any implementation.
 
 ghost use Rattle.std.specs.Prelude.{◌≡◌, ◌≢◌, ◌<◌, false, IsTrue, IfOk, OnErr, IfErr};
 ghost use Rattle.std.specs.FinMap as map;
@@ -10,7 +10,7 @@ use ddt_path::{Prefix, Xeid};
 use ddt_trie::PrefixMap;
 use std::alloc::Global;
 
-/// An empty map has no entry and no longest prefix, and the whole of `from` is free.
+/// An empty map has no entry and no longest prefix, and the least specific hole is `from`.
 #[tactic(auto, using(ddt_trie::specs::laws::Map::map_rules))]
 fn nothing<M: PrefixMap<u32>>(
     alloc: Global,
@@ -32,7 +32,7 @@ fn nothing<M: PrefixMap<u32>>(
     )
 }
 
-/// What is inserted is found, and what is refused comes back and leaves the map as it was.
+/// An inserted value is found. A refused one is returned, and the map is unchanged.
 #[tactic(auto, using(ddt_trie::specs::laws::Map::map_rules))]
 fn found_again<M: PrefixMap<u32>>(
     kept: &mut M,
@@ -48,7 +48,7 @@ fn found_again<M: PrefixMap<u32>>(
     Ok(kept.get(prefix).copied())
 }
 
-/// An insert leaves the value of each other prefix.
+/// An insert doesn't change the value of any other prefix.
 #[tactic(auto, using(ddt_trie::specs::laws::Map::map_rules))]
 fn others_stay<M: PrefixMap<u32>>(
     kept: &mut M,
@@ -64,7 +64,7 @@ fn others_stay<M: PrefixMap<u32>>(
     Ok(kept.get(other).copied())
 }
 
-/// A second value takes the place of the first, which is answered, and the count stays.
+/// A second value replaces the first, which is returned, and the length is unchanged.
 #[tactic(auto, using(ddt_trie::specs::laws::Map::map_rules))]
 fn replaced<M: PrefixMap<u32>>(
     alloc: Global,
@@ -101,7 +101,7 @@ fn innermost<M: PrefixMap<u32>>(
     }
 }
 
-/// Where a prefix covers an identifier, nothing is free for it.
+/// There is no hole for an identifier that a prefix covers.
 #[tactic(auto, using(ddt_trie::specs::laws::Map::map_rules))]
 fn nothing_free<M: PrefixMap<u32>>(
     alloc: Global,
@@ -118,7 +118,7 @@ fn nothing_free<M: PrefixMap<u32>>(
     Ok(map.free(from, x))
 }
 
-/// A prefix that has a value itself is free below.
+/// The value of a prefix itself doesn't count for `free_below`.
 #[tactic(auto, using(ddt_trie::specs::laws::Map::map_rules))]
 fn free_below_itself<M: PrefixMap<u32>>(
     alloc: Global,
@@ -133,7 +133,7 @@ fn free_below_itself<M: PrefixMap<u32>>(
     Ok(map.free_below(from, x))
 }
 
-/// Where a prefix strictly below another covers an identifier, nothing is free for it below that one.
+/// There is no hole below a prefix for an identifier that a prefix strictly below it covers.
 #[tactic(auto, using(ddt_trie::specs::laws::Map::map_rules))]
 fn nothing_free_below<M: PrefixMap<u32>>(
     alloc: Global,
@@ -151,7 +151,7 @@ fn nothing_free_below<M: PrefixMap<u32>>(
     Ok(map.free_below(from, x))
 }
 
-/// What is removed is answered once.
+/// A removed value is returned once.
 #[tactic(auto, using(ddt_trie::specs::laws::Map::map_rules))]
 fn removed<M: PrefixMap<u32>>(
     alloc: Global,
@@ -166,7 +166,7 @@ fn removed<M: PrefixMap<u32>>(
     Ok((first, second, map.len()))
 }
 
-/// A filter keeps what passes and drops the rest.
+/// `retain` keeps the values that pass and drops the rest.
 #[tactic(auto, using(ddt_trie::specs::laws::Map::map_rules))]
 fn filtered<M: PrefixMap<u32>>(
     kept: &mut M,
@@ -181,7 +181,7 @@ fn filtered<M: PrefixMap<u32>>(
     (kept.get(low).copied(), kept.get(high).copied())
 }
 
-/// A filter that drops the one value leaves nothing.
+/// `retain` that drops the only value leaves an empty map.
 #[tactic(auto, using(ddt_trie::specs::laws::Map::map_rules))]
 fn emptied<M: PrefixMap<u32>>(alloc: Global, prefix: Prefix) -> Result<usize, (Prefix, u32)>
     ensures { IfOk result (λ len. len ≡ 0) }

@@ -1,4 +1,4 @@
-//! A hash table answers as a list does.
+//! A map with a hash table returns what a list returns.
 
 ghost use Rattle.std.specs.Prelude.{◌≤◌};
 
@@ -8,7 +8,7 @@ use ddt_trie::{HashedMap, ListMap, MOST_ENTRIES, PrefixMap};
 use std::alloc::Global;
 use std::process::Abort;
 
-/// An identifier of an instance: one of 16 addresses that part at their first digits, and at the last.
+/// An identifier of an instance: one of 16 addresses, which differ in their first digits and in the last.
 fn xeid(iid: u32, at: u32) -> Xeid {
     let address = (at % 8 << 29) | (at / 8 % 2);
     Xeid {
@@ -29,7 +29,7 @@ fn value_of_longest<M: PrefixMap<u32>>(map: &M, x: Xeid) -> Option<(Prefix, u32)
     }
 }
 
-/// A hash table and a list, which are to answer alike.
+/// A hash table and a list, which must return the same.
 #[derive(Drop)]
 struct Both {
     hashed: HashedMap<u32>,
@@ -74,7 +74,7 @@ fn removes<M: PrefixMap<u32>>(rt: &impl Abort, map: &mut M, prefix: Prefix, valu
     same(rt, &map.remove(prefix), &Some(value), &prefix);
 }
 
-/// Only values below four stay in both maps: so many.
+/// Keeps only the values below four in both maps, and returns how many are left.
 fn retain_in_both(rt: &impl Abort, both: &mut Both, count: usize) {
     retain_below_four(&mut both.hashed);
     retain_below_four(&mut both.plain);

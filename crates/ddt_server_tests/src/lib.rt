@@ -1,4 +1,5 @@
-//! The tests of a server's crates: `ddt_trie`, `ddt_node` and `ddt_wires`. `comparison` is what all assert by.
+//! The tests of a server's crates: `ddt_trie`, `ddt_node` and `ddt_sockets`. `comparison` has the
+//! assertions of all.
 #![tactic(auto)]
 
 #[cfg(test)]

@@ -78,7 +78,7 @@ fn is_forwarded(handled: &Handled, to: Locator, bytes: &[u8]) -> bool {
     }
 }
 
-/// Whether these bytes go on to an ETR where a datagram comes.
+/// Whether these bytes are forwarded to an ETR for a datagram.
 fn forwards(
     alloc: Global,
     rt: &impl Abort,
@@ -106,7 +106,7 @@ fn replies_alone(
     is_reply_alone(alloc, &handled(alloc, rt, text, request)?, wanted)
 }
 
-/// The same of a DDT Map-Request for an identifier.
+/// Whether the reply to a DDT Map-Request for an identifier is this message, and nothing is forwarded.
 fn replies_to(
     alloc: Global,
     rt: &impl Abort,
@@ -125,7 +125,7 @@ fn forwarded_to(handled: &Handled) -> Option<Locator> {
     }
 }
 
-/// To where a DDT Map-Request for an identifier is forwarded.
+/// The ETR to which a DDT Map-Request for an identifier is forwarded.
 fn addressee(
     alloc: Global,
     rt: &impl Abort,
@@ -144,13 +144,13 @@ fn a_registered_site_is_acknowledged(rt: HostRuntime) -> Result<(), Fail> {
     Ok(())
 }
 
-/// The first four bytes of a DDT Map-Request, and of what goes on to the ETR: the bit D is cleared, other bits stay.
+/// The first four bytes of a DDT Map-Request, and of the forwarded request: the bit D is cleared, no other bit.
 const FIRST_BYTES: &[([u8; 4], [u8; 4])] = &[
     ([0x84, 0, 0, 0], [0x80, 0, 0, 0]),
     ([0x87, 0, 0, 0xff], [0x83, 0, 0, 0xff]),
 ];
 
-/// A message behind other first bytes.
+/// A message with other first bytes.
 fn behind(message: Vec<u8>, first: [u8; 4]) -> Vec<u8> {
     changed(
         message,
@@ -163,13 +163,13 @@ fn request_behind(alloc: Global, first: [u8; 4]) -> Result<Vec<u8>, Fail> {
     Ok(behind(bytes_of(alloc, DDT_REQUEST)?, first))
 }
 
-/// Whether the request with these first bytes goes on to the site's ETR with those.
+/// Whether the request with these first bytes is forwarded to the site's ETR with those.
 fn goes_on(alloc: Global, rt: &impl Abort, first: [u8; 4], onward: [u8; 4]) -> Result<bool, Fail> {
     let request = request_behind(alloc, first)?;
     goes_on_as(alloc, rt, &request, onward)
 }
 
-/// Whether a request goes on to the site's ETR with these first bytes.
+/// Whether a request is forwarded to the site's ETR with these first bytes.
 fn goes_on_as(
     alloc: Global,
     rt: &impl Abort,
@@ -245,7 +245,7 @@ fn is_ignored_by_both(alloc: Global, rt: &impl Abort, bytes: &[u8]) -> Result<bo
     Ok(east && is_ignored(&handled(alloc, rt, ROOT, bytes)?))
 }
 
-/// The same of so many bytes of a message.
+/// Whether neither sends anything for the first bytes of a message, as many as these.
 fn is_front_ignored(
     alloc: Global,
     rt: &impl Abort,
@@ -256,7 +256,7 @@ fn is_front_ignored(
     is_ignored_by_both(alloc, rt, front(&bytes, count))
 }
 
-/// Messages, of which so many bytes are no DDT Map-Request.
+/// Messages, and numbers of their first bytes that are no DDT Map-Request.
 const NO_REQUESTS: &[(&str, usize)] = &[
     (ITR_REQUEST, 1000),
     (ROOT_REFERS_TO_TEN, 1000),
@@ -274,7 +274,7 @@ fn what_is_no_ddt_map_request_is_ignored(rt: HostRuntime) -> Result<(), Fail> {
     Ok(())
 }
 
-/// What a server of the text answers of an identifier.
+/// The answer of a server of this configuration for an identifier.
 fn answer(alloc: Global, rt: &impl Abort, text: &str, xeid: &str) -> Result<ReferralRecord, Fail> {
     Ok(server(alloc, rt, text)?.answer(parse_xeid(xeid.as_bytes())?))
 }
@@ -343,7 +343,7 @@ fn of_sites_inside_sites_the_longest_decides(rt: HostRuntime) -> Result<(), Fail
 }
 
 fn is_named(server: &ListServer, name: &str) -> bool {
-    server.config().name.as_bytes() == name.as_bytes()
+    server.name().as_bytes() == name.as_bytes()
 }
 
 /// Bytes that are no configuration, and their first fault: no UTF-8, no TOML, and a server without a locator.
@@ -356,19 +356,19 @@ const NO_CONFIGURATIONS: &[(&[u8], ConfigFault)] = &[
     ),
 ];
 
-/// The server of the east refuses these, and keeps its own configuration.
+/// The server of the east refuses these, and is unchanged.
 fn keeps_its_own(alloc: Global, rt: &impl Abort, server: &mut ListServer) {
     for &(bytes, fault) in NO_CONFIGURATIONS {
-        same(rt, &server.take_up(alloc, bytes), &Err(fault), &fault);
+        same(rt, &server.adopt(alloc, bytes), &Err(fault), &fault);
         holds(rt, is_named(server, "east"), &fault);
     }
 }
 
 #[test]
-fn a_server_takes_up_another_configuration_or_keeps_its_own(rt: HostRuntime) -> Result<(), Fail> {
+fn a_server_adopts_another_configuration_or_is_unchanged(rt: HostRuntime) -> Result<(), Fail> {
     let mut server: ListServer = Server::read(rt.alloc(), EAST.as_bytes())?;
     keeps_its_own(rt.alloc(), &rt, &mut server);
-    server.take_up(rt.alloc(), TEN.as_bytes())?;
+    server.adopt(rt.alloc(), TEN.as_bytes())?;
     holds(&rt, is_named(&server, "ten"), &"ten");
     Ok(())
 }
@@ -403,7 +403,7 @@ fn has(alloc: Global, rt: &impl Abort, buffer: &[u8], message: &str) -> Result<(
     Ok(())
 }
 
-/// A request has a reply, which the buffer then has, or none.
+/// Handles a request: if it has a reply, the buffer has it afterwards.
 fn takes_reply(
     alloc: Global,
     rt: &impl Abort,

@@ -3,7 +3,7 @@
 use crate::comparison::{holds, same};
 use ddt_ecm::CONTROL_PORT;
 use ddt_path::Locator;
-use ddt_wires::{NetFault, Packet, PolledWires, Wires, ip_of, locator_of};
+use ddt_sockets::{NetFault, Packet, PolledWires, Wires, ip_of, locator_of};
 use std::net::{Net, SocketAddr, UdpSocket};
 use std::os::fd::AsRawFd;
 use std::process::Abort;
@@ -30,7 +30,7 @@ fn come(wires: &mut PolledWires, at: Locator) -> Result<Option<Packet>, NetFault
     wires.receive(at, &mut buffer)
 }
 
-/// Waits for at most so long, and answers whether something is at a locator then.
+/// Waits for at most this time, and returns whether something is at a locator then.
 fn is_there(wires: &mut PolledWires, at: Locator, millis: u16) -> bool {
     wires.wait(millis) && wires.is_ready_at(at)
 }
@@ -139,14 +139,14 @@ fn a_wait_ends_at_its_time_and_a_receive_at_once(rt: HostRuntime) -> Result<(), 
     Ok(())
 }
 
-/// The sockets that stand for one locator, and another.
+/// The sockets of one locator, and another.
 const TWO_OF_ONE: &[Row] = &[
     (ME, OTHER, 43_421),
     (ME, BESIDE, 43_422),
     (SERVER, SERVER, 0),
 ];
 
-/// Two datagrams wait at each of the two sockets that stand for one locator.
+/// Two datagrams wait at each of the two sockets of one locator.
 fn both_busy(net: &impl Net, wires: &mut PolledWires) -> Result<(), Fail> {
     bind_all(net, wires, TWO_OF_ONE)?;
     for (address, port) in [(OTHER, 43_421), (BESIDE, 43_422)] {

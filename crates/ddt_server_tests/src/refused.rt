@@ -1,18 +1,18 @@
-//! Memory is refused to maps and servers: all stays as it was, and the next call does what this one was to do.
+//! Maps and servers get no memory: they are unchanged, and the next call succeeds.
 //!
 //! `.ci/memory` runs each of these tests with each growth refused in turn.
 
 use crate::comparison::{holds, same};
 use crate::trie::{DOCUMENTATION, TEN_ONE, finds_longest, front, gets, hole, put};
 use crate::wires::{ETR, gave, tried};
-use ddt_config::{ServerConfig, from_toml, to_toml};
+use ddt_config::{Content, ServerConfig, from_toml, to_toml};
 use ddt_examples::configurations::{EAST, SHARED_ROOT, TWO_AUTHORITIES};
 use ddt_examples::messages::{DDT_REQUEST, EAST_ACKNOWLEDGES};
 use ddt_examples::{bytes_of, changed};
 use ddt_node::{Handled, Server, has_room_for};
 use ddt_path::{Listed, Locator, Prefix, Xeid};
+use ddt_sockets::{Call, Served, WaitingDatagram, WiresInMemory, serve_turns};
 use ddt_trie::{HashedMap, ListMap, PrefixMap, TrieMap};
-use ddt_wires::{Call, Served, Waiting, WiresInMemory, serve_turns};
 use std::alloc::{AllocError, Global};
 use std::process::Abort;
 use std::test::Fail;
@@ -76,7 +76,7 @@ fn has_longest<M: PrefixMap<u32>>(rt: &impl Abort, map: &M, count: u32) {
     }
 }
 
-/// What is free for both identifiers.
+/// The holes of both identifiers.
 fn holes<M: PrefixMap<u32>>(rt: &impl Abort, map: &M) -> [Option<Prefix>; 2] {
     [
         hole(rt, map, identifier(Locator::V4(TEN_ONE))),
@@ -186,9 +186,30 @@ fn server(rt: &impl Abort, alloc: Global, text: &str) -> Result<TrieServer, Fail
     }
 }
 
+/// A server answers by each child that an authority holds.
+fn has_children(rt: &impl Abort, server: &TrieServer, content: &Content) {
+    let Content::Children(children) = content else {
+        return;
+    };
+    for child in children.as_slice() {
+        let answer = server.answer(child.prefix.inner());
+        same(rt, &answer.prefix, &child.prefix, &"the child");
+        let (found, wanted) = (answer.servers.as_slice(), child.locators.as_slice());
+        same(rt, &found, &wanted, &"its locators");
+    }
+}
+
 fn is_built(rt: &impl Abort, alloc: Global, text: &str) -> Result<(), Fail> {
     let server = server(rt, alloc, text)?;
-    is_of(rt, alloc, server.config(), text)
+    let wanted = config(alloc, text)?;
+    same(rt, server.name(), &wanted.name, &"the name");
+    same(rt, &server.role(), &wanted.role, &"the role");
+    let locators = server.locators().as_slice();
+    same(rt, &locators, &wanted.locators.as_slice(), &"the locators");
+    for authority in wanted.authorities.as_slice() {
+        has_children(rt, &server, &authority.content);
+    }
+    Ok(())
 }
 
 #[test]
@@ -247,8 +268,8 @@ const SERVER: Locator = Locator::V4(0x7f00_0101);
 const RESOLVER: Locator = Locator::V4(0x7f00_0035);
 
 /// The worked request.
-fn request(alloc: Global) -> Result<Waiting, Fail> {
-    Ok(Waiting {
+fn request(alloc: Global) -> Result<WaitingDatagram, Fail> {
+    Ok(WaitingDatagram {
         at: SERVER,
         from: RESOLVER,
         port: 4342,
@@ -294,8 +315,8 @@ enum Made {
     WentOn,
 }
 
-/// What a call is behind another one. Behind a poll comes a reply, or the poll of the next turn where the request is
-/// lost; behind a reply the request goes on, and then comes the next poll.
+/// What a call is, by the call before it. A poll is followed by a reply, or by the poll of the next turn if the request
+/// is lost. A reply is followed by the forwarded request, and that by the next poll.
 fn made_behind(rt: &impl Abort, before: Made, call: &Call, messages: &Messages) -> Made {
     if before == Made::Replied {
         holds(rt, tried(Some(call), ETR, 4342, &messages.onward), call);
@@ -342,7 +363,7 @@ fn are_served(
     messages: &Messages,
 ) -> Result<bool, Fail> {
     same(rt, &served.received, &3, &"received");
-    if let Some(calls) = wires.told() {
+    if let Some(calls) = wires.recorded_calls() {
         are_calls(rt, calls, served, messages);
     }
     match served.replied {

@@ -48,18 +48,18 @@ pub fn longest<M: PrefixMap<u32>>(map: &M, x: Xeid) -> Option<(Prefix, u32)> {
     }
 }
 
-/// What is free for the identifier among `from` and the prefixes inside it.
+/// The least specific hole for the identifier, of `from` and the prefixes inside it.
 fn hole_in<M: PrefixMap<u32>>(rt: &impl Abort, map: &M, from: Prefix, x: Xeid) -> Option<Prefix> {
     assert!(rt; from.covers_xeid(x));
     map.free(from, x)
 }
 
-/// What is free for the identifier from everything downwards.
+/// The least specific hole for the identifier.
 pub fn hole<M: PrefixMap<u32>>(rt: &impl Abort, map: &M, x: Xeid) -> Option<Prefix> {
     hole_in(rt, map, Prefix::cut(x, 0), x)
 }
 
-/// What is free for the identifier among the prefixes strictly below `from`.
+/// The least specific hole for the identifier among the prefixes strictly below `from`.
 fn hole_below<M: PrefixMap<u32>>(
     rt: &impl Abort,
     map: &M,
@@ -128,9 +128,9 @@ enum Step {
     /// Only values below this one stay.
     RetainBelow(u32),
     Longest(&'static str, Option<(&'static str, u32)>),
-    /// What is free for an identifier from everything downwards.
+    /// The least specific hole for an identifier.
     Free(&'static str, Option<&'static str>),
-    /// What is free for it strictly below a prefix.
+    /// The least specific hole for it strictly below a prefix.
     FreeBelow(&'static str, &'static str, Option<&'static str>),
 }
 
@@ -173,7 +173,7 @@ const ONE_HOST: [Step; 4] = [
     Longest("[0]2001:db8::1", Some(("[0]2001:db8::1/128", 1))),
 ];
 
-/// The two families of an instance stand apart, and so do instances.
+/// The two families of an instance are separate, and so are instances.
 const FAMILIES_APART: [Step; 5] = [
     Put("[0]0.0.0.0/0", 4, None),
     Longest("[0]10.0.0.0", Some(("[0]0.0.0.0/0", 4))),
@@ -225,7 +225,7 @@ const BELOW_A_HOST: [Step; 5] = [
     FreeBelow("[0]10.0.0.0/31", "[0]10.0.0.1", Some("[0]10.0.0.1/32")),
 ];
 
-/// What each map answers, whichever way it is kept.
+/// What each implementation of the map returns.
 const WORKED: &[&[Step]] = &[
     &ONE_BLOCK,
     &NESTED_BLOCKS,
@@ -387,7 +387,7 @@ fn change<A: PrefixMap<u32>, B: PrefixMap<u32>>(
     }
 }
 
-/// Two maps answer alike.
+/// Two maps return the same.
 fn same_answers<A: PrefixMap<u32>, B: PrefixMap<u32>>(
     rt: &impl Abort,
     one: &A,

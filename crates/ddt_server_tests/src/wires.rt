@@ -8,11 +8,11 @@ use ddt_examples::messages::{DDT_REQUEST, EAST_ACKNOWLEDGES};
 use ddt_examples::{bytes_of, changed};
 use ddt_node::{Server, has_room_for};
 use ddt_path::{Listed, Locator};
-use ddt_trie::ListMap;
-use ddt_wires::{
-    Call, MOST_BYTES, NetFault, Outbox, Packet, Served, UdpWires, Waiting, Wires, WiresInMemory,
-    serve_turn, serve_turns,
+use ddt_sockets::{
+    Call, MOST_BYTES, NetFault, Outbox, Packet, Served, UdpWires, WaitingDatagram, Wires,
+    WiresInMemory, serve_turn, serve_turns,
 };
+use ddt_trie::ListMap;
 use std::alloc::Global;
 use std::process::Abort;
 use std::test::Fail;
@@ -35,7 +35,7 @@ fn east(alloc: Global, rt: &impl Abort) -> Result<ListServer, Fail> {
 
 /// Lets a datagram of the resolver, from this port, wait at a socket.
 fn add(wires: &mut WiresInMemory, at: Locator, port: u16, bytes: Vec<u8>) -> Result<(), Fail> {
-    wires.add(Waiting {
+    wires.add(WaitingDatagram {
         at,
         from: RESOLVER,
         port,
@@ -143,11 +143,11 @@ fn served_request(alloc: Global, calls: &[Call], port: u16) -> Result<bool, Fail
 fn counts(alloc: Global, rt: &impl Abort, failing: u64) -> Result<(u32, u32, usize), Fail> {
     let mut wires = busy(alloc, failing, 4342)?;
     let served = serve_turns(alloc, &mut wires, &east(alloc, rt)?, SERVER, 3);
-    let calls = wires.told().ok_or("no memory")?;
+    let calls = wires.recorded_calls().ok_or("no memory")?;
     Ok((served.received, served.replied, calls.len()))
 }
 
-/// Whether a server that takes some turns over such wires receives and replies to so many.
+/// Whether a server receives and replies to this many datagrams in some turns over such wires.
 fn serves(
     alloc: Global,
     rt: &impl Abort,
@@ -159,7 +159,7 @@ fn serves(
     Ok(served.received == want.0 && served.replied == want.1)
 }
 
-/// Whether the calls behind those of the request are a poll that gave the byte 00, and one that failed.
+/// Whether the calls after those of the request are a poll that gave the byte 00, and one that failed.
 fn ends_in_a_byte_and_a_failure(calls: &[Call]) -> bool {
     calls.len() == 5 && gave(calls.get(3), 4342, &[0]) && failed(calls.get(4))
 }
@@ -168,7 +168,7 @@ fn ends_in_a_byte_and_a_failure(calls: &[Call]) -> bool {
 fn a_request_is_answered_and_goes_on_to_the_etr(rt: HostRuntime) -> Result<(), Fail> {
     let mut wires = busy(rt.alloc(), 5, 4342)?;
     let is_counted = serves(rt.alloc(), &rt, &mut wires, 3, (2, 1))?;
-    let calls = wires.told().ok_or("no memory")?;
+    let calls = wires.recorded_calls().ok_or("no memory")?;
     let is_served = served_request(rt.alloc(), calls, 4342)?;
     let is_right = is_counted && is_served && ends_in_a_byte_and_a_failure(calls);
     holds(&rt, is_right, &calls);
@@ -179,7 +179,7 @@ fn a_request_is_answered_and_goes_on_to_the_etr(rt: HostRuntime) -> Result<(), F
 fn a_reply_goes_to_the_port_that_the_request_came_from(rt: HostRuntime) -> Result<(), Fail> {
     let mut wires = busy(rt.alloc(), 0, 50000)?;
     let is_counted = serves(rt.alloc(), &rt, &mut wires, 1, (1, 1))?;
-    let calls = wires.told().ok_or("no memory")?;
+    let calls = wires.recorded_calls().ok_or("no memory")?;
     let is_served = served_request(rt.alloc(), calls, 50000)?;
     holds(&rt, is_counted && is_served && calls.len() == 3, &calls);
     Ok(())
@@ -291,7 +291,7 @@ fn serves_once(alloc: Global, rt: &impl Abort, wires: &mut UdpWires) -> Result<b
     Ok(served.received == 1 && served.replied == 1)
 }
 
-/// Whether the reply of the server waits at the resolver, and nothing behind it.
+/// Whether the reply of the server waits at the resolver, and nothing after it.
 fn gives_reply(alloc: Global, wires: &mut UdpWires) -> Result<bool, Fail> {
     let mut buffer = [0; 200];
     let reply = wires.receive(UDP_RESOLVER, &mut buffer)?;

@@ -22,9 +22,9 @@ use Rattle.ddt_resolver.specs.declared.step.Reply.TheVariants.{ToAsk}
 use Rattle.ddt_resolver.specs.Step.{Ask, asks}
 use Rattle.ddt_resolver.specs.laws.Order.{order_moved}
 use Rattle.ddt_resolver.specs.laws.Shape.{moved_by_step}
-use Rattle.ddt_sim.specs.declared.hop.Lookup.{Lookup}
-use Rattle.ddt_sim.specs.declared.hop.LookupError.{LookupError}
-use Rattle.ddt_sim.specs.declared.hop.LookupError.TheVariants.{GaveUp, TooMany}
+use Rattle.ddt_sim.specs.declared.lookup_result.Lookup.{Lookup}
+use Rattle.ddt_sim.specs.declared.lookup_result.LookupError.{LookupError}
+use Rattle.ddt_sim.specs.declared.lookup_result.LookupError.TheVariants.{GaveUp, TooMany}
 use Rattle.ddt_sim.specs.Sound.{IsSound, IsRightAsked, StepsKeepSoundness, TimeKeepsSoundness}
 use Rattle.ddt_sim.specs.Waiting.{CanBeAsked, IsAwaited}
 use Rattle.ddt_sim.specs.Lookup.{IsRemembered, Reaches, sent, Fails, too_many, used_up, unasked, ask_failure}

@@ -24,11 +24,11 @@ use Rattle.ddt_resolver.specs.Act.{HearStep}
 use Rattle.ddt_resolver.specs.Order.{IsStateInOrder}
 use Rattle.ddt_resolver.specs.laws.Order.{order_moved}
 use Rattle.ddt_cache.specs.Moment.{last_moment}
-use Rattle.ddt_sim.specs.declared.hop.Hop.{Hop}
-use Rattle.ddt_sim.specs.declared.hop.LookupError.{LookupError}
-use Rattle.ddt_sim.specs.declared.hop.LookupError.TheVariants.{GaveUp, Memory}
-use Rattle.ddt_sim.specs.declared.exchange.Turn.{Turn}
-use Rattle.ddt_sim.specs.declared.exchange.Turn.TheVariants.{GoesOn, Ends}
+use Rattle.ddt_sim.specs.declared.lookup_result.Hop.{Hop}
+use Rattle.ddt_sim.specs.declared.lookup_result.LookupError.{LookupError}
+use Rattle.ddt_sim.specs.declared.lookup_result.LookupError.TheVariants.{GaveUp, Memory}
+use Rattle.ddt_sim.specs.declared.exchange.LookupProgress.{LookupProgress}
+use Rattle.ddt_sim.specs.declared.exchange.LookupProgress.TheVariants.{GoesOn, Ends}
 use Rattle.ddt_sim.specs.Honest.{IsServer, IsHonestReply}
 use Rattle.ddt_sim.specs.Sound.{IsSound, IsRightHeard, StepsKeepSoundness, TimeKeepsSoundness}
 use Rattle.ddt_sim.specs.Waiting.{Waits, requests_left, left_after, IsAwaited}
@@ -85,7 +85,7 @@ module _ (r : Register) (now : ℕ) (x : Xeid) (s : State) (t : ℕ) (d : Outgoi
 
 -- What came back for a request, from servers of which `honest` says for which registers they answer honestly, and what
 -- the resolver's step made of it.
-pub record Came (honest : Register → Type 0) (now : ℕ) (s : State) (d : Outgoing) (reply : List ℕ) (new : State) (h : Heard) : Type 0 where
+pub record IsReplyReceived (honest : Register → Type 0) (now : ℕ) (s : State) (d : Outgoing) (reply : List ℕ) (new : State) (h : Heard) : Type 0 where
   pub step : HearStep (moved now s) d.to reply new h
   pub said : (r : Register) (m : Message) → honest r → IsServer r d.to → IsDdtRequest d.bytes m → IsHonestReply r d.to m (Some reply)
 
@@ -96,7 +96,7 @@ answered P _ e is = absurd (cc e)
 module _ (d : Outgoing) (answer : Result (Option (List ℕ)) AllocError) {honest : Register → Type 0} {sent : List ℕ} (same : sent ≡ d.bytes)
     (says : (r : Register) (m : Message) → honest r → IsServer r d.to → IsDdtRequest sent m → IfOk answer (IsHonestReply r d.to m)) where
   pub came_back : {now : ℕ} {s : State} {reply bytes : List ℕ} {new : State} {h : Heard} → Ok reply ≡ reply_or_failure answer → bytes ≡ reply → HearStep (moved now s) d.to bytes new h
-      → Came honest now s d reply new h
+      → IsReplyReceived honest now s d reply new h
   came_back {now = now} {s = s} {new = new} {h = h} came is step = record {
     step = subst (λ v. HearStep (moved now s) d.to v new h) is step;
     said = λ r m own server asked. answered (IsHonestReply r d.to m) answer came (says r m own server (rw same asked));
@@ -118,20 +118,20 @@ unreplied_fails (Ok None) e = unanswered refl (cc e)
 unreplied_fails (Err refused) e = stopped (inl refl) (cc e)
 
 -- whether the answer to a reply is for its ticket
-abbrev pub IsOwn : ℕ → Heard → Option (Result Turn Why) → Type 0
+abbrev pub IsOwn : ℕ → Heard → Option (Result LookupProgress Why) → Type 0
 IsOwn t h own = MatchOption own (IsNotFor t h) (λ o. h ≡ heard_of t o)
 
-pub taken_is : (t : ℕ) {h : Heard} (own : Option (Result Turn Why)) {turn : Turn} → IsOwn t h own → Ok turn ≡ turn_or_failure own → h ≡ heard_of t (Ok turn)
-taken_is t (Some (Ok same)) is e = is ∙ ap (λ (v : Turn). heard_of t (Ok v)) (cc e)
+pub taken_is : (t : ℕ) {h : Heard} (own : Option (Result LookupProgress Why)) {turn : LookupProgress} → IsOwn t h own → Ok turn ≡ turn_or_failure own → h ≡ heard_of t (Ok turn)
+taken_is t (Some (Ok same)) is e = is ∙ ap (λ (v : LookupProgress). heard_of t (Ok v)) (cc e)
 taken_is t _ is e = cc e
 
-module _ {honest : Register → Type 0} {now : ℕ} {s : State} {t : ℕ} {d : Outgoing} {reply : List ℕ} {new : State} {h : Heard} (came : Came honest now s d reply new h) where
-  pub untaken_fails : (own : Option (Result Turn Why)) {error : LookupError} → IsOwn t h own → Err error ≡ turn_or_failure own → TurnFails now s t d error new
+module _ {honest : Register → Type 0} {now : ℕ} {s : State} {t : ℕ} {d : Outgoing} {reply : List ℕ} {new : State} {h : Heard} (came : IsReplyReceived honest now s d reply new h) where
+  pub untaken_fails : (own : Option (Result LookupProgress Why)) {error : LookupError} → IsOwn t h own → Err error ≡ turn_or_failure own → TurnFails now s t d error new
   untaken_fails (Some (Ok turn)) is e = cc e
   untaken_fails (Some (Err why)) is e = gave_up reply why (subst (HearStep (moved now s) d.to reply new) is came.step) (cc e)
   untaken_fails None is e = not_taken reply h came.step is (cc e)
 
-  pub turn_of : {turn : Turn} {hops more : List Hop} → h ≡ heard_of t (Ok turn) → more ≡ hops ++ hop_of d reply ∷ [] → IsLookupTurn now s t d hops turn more new
+  pub turn_of : {turn : LookupProgress} {hops more : List Hop} → h ≡ heard_of t (Ok turn) → more ≡ hops ++ hop_of d reply ∷ [] → IsLookupTurn now s t d hops turn more new
   turn_of is grown = record { reply = reply; step = subst (HearStep (moved now s) d.to reply new) is came.step; hop = grown }
 
   -- over honest servers
@@ -139,23 +139,23 @@ module _ {honest : Register → Type 0} {now : ℕ} {s : State} {t : ℕ} {d : O
     pub well_heard : IsWellHeard r x s t d reply new h
     well_heard = a.heard reply (came.said r a.request is a.server a.spelled) new h came.step
 
-    pub untaken_well : (own : Option (Result Turn Why)) {error : LookupError} {hops : List Hop} → IsOwn t h own → Err error ≡ turn_or_failure own → IsRightlyTurned r x s.me hops (Err error) hops new
+    pub untaken_well : (own : Option (Result LookupProgress Why)) {error : LookupError} {hops : List Hop} → IsOwn t h own → Err error ≡ turn_or_failure own → IsRightlyTurned r x s.me hops (Err error) hops new
     untaken_well own {error = error} is e = record { sound = well_heard.sound; turn = tt; failure = by own is e; hops = λ all. tt }
       where
-        by : (own : Option (Result Turn Why)) → IsOwn t h own → Err error ≡ turn_or_failure own → IsRightFailure new error
+        by : (own : Option (Result LookupProgress Why)) → IsOwn t h own → Err error ≡ turn_or_failure own → IsRightFailure new error
         by (Some (Ok turn)) is e = cc e
         by (Some (Err why)) is e = let gave : error ≡ GaveUp why = cc e in rw gave (well_heard.why why is)
         by None is e = absurd (well_heard.own is)
 
-    pub taken_well : (turn : Turn) {hops more : List Hop} → h ≡ heard_of t (Ok turn) → more ≡ hops ++ hop_of d reply ∷ [] → IsRightlyTurned r x s.me hops (Ok turn) more new
+    pub taken_well : (turn : LookupProgress) {hops more : List Hop} → h ≡ heard_of t (Ok turn) → more ≡ hops ++ hop_of d reply ∷ [] → IsRightlyTurned r x s.me hops (Ok turn) more new
     taken_well turn {hops = hops} is grown = record { sound = well_heard.sound; turn = by turn is; failure = tt; hops = λ all. rw grown (All-push (IsHonestHop r x s.me) hops (hop_of d reply) all well_heard.hop) }
       where
-        by : (turn : Turn) → h ≡ heard_of t (Ok turn) → IsRightTurn r x turn
+        by : (turn : LookupProgress) → h ≡ heard_of t (Ok turn) → IsRightTurn r x turn
         by (GoesOn e) is = tt
         by (Ends o) is = well_heard.outcome o is
 
 -- a turn brings the lookup nearer to its end
-pub turn_is_nearer : {now : ℕ} {s : State} {t : ℕ} {d : Outgoing} {new : State} {source : _} {bytes : List ℕ} {h : Heard} {x : Xeid} (turn : Turn) → IsStateInOrder s → HearStep (moved now s) source bytes new h
+pub turn_is_nearer : {now : ℕ} {s : State} {t : ℕ} {d : Outgoing} {new : State} {source : _} {bytes : List ℕ} {h : Heard} {x : Xeid} (turn : LookupProgress) → IsStateInOrder s → HearStep (moved now s) source bytes new h
     → ComesNearer s new h → h ≡ heard_of t (Ok turn) → Waits now x s t d → left_after new t turn < requests_left s t
 turn_is_nearer {now = now} {s = s} {new = new} {source = source} {bytes = bytes} (GoesOn e) o step near is w =
     let on = followed_waits w (does (subst (HearStep (moved now s) source bytes new) is step)) in
@@ -197,7 +197,7 @@ module _ {before honest : Register → Type 0} {now : ℕ} {s0 : State} {t : ℕ
       → WhileUnderWay before now s0 t d0 (λ r x. IsRightlyEnded r x s0.me (Err error) new)
   fails_well well r x honest u = let v = well r x (w.stay r honest) (w.under r x honest u) in record { sound = v.sound; right = tt; failure = v.failure; fair = tt }
 
-  module _ {turn : Turn} {more : List Hop} {new : State} (is_turn : IsLookupTurn now s t d hops turn more new) where
+  module _ {turn : LookupProgress} {more : List Hop} {new : State} (is_turn : IsLookupTurn now s t d hops turn more new) where
     module _ (near : (x : Xeid) → Waits now x s t d → left_after new t turn < requests_left s t) where
       within : length more + left_after new t turn ≤ requests_left s0 t
       within =

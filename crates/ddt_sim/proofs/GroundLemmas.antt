@@ -32,7 +32,7 @@ use Rattle.ddt_sim.specs.Waiting.{CanBeAsked}
 use Rattle.ddt_sim.specs.World.{World, Members, MayReply, reply_to, request_from, request_in, request_at, sent_for, event_of, reply_at, progress_at, call_at, CallsResolver, asked, heard, ticked, Resolves, by_reply, by_silence, WorldStep, resolves, serves, not_sent, passes, replaces, no_member}
 use Rattle.ddt_sim.specs.History.{Line, History, begin, next, Each, at_start}
 use Rattle.ddt_sim.specs.Schedules.{Ends, IsOnce}
-use Rattle.ddt_sim.specs.laws.Ticket.{Tickets, tickets_on, once_on, IsTurn, still_turn, move_turn, reply_told, told_progress, Came, came, stayed, opened, went_on}
+use Rattle.ddt_sim.specs.laws.Ticket.{Tickets, tickets_on, once_on, IsTurn, still_turn, move_turn, reply_told, told_progress, PendingFrom, pending_from, stayed, opened, went_on}
 
 -- ---- lists that have grown at their end
 
@@ -193,15 +193,15 @@ module _ {past : List Line} {w : World} (g : IsGround past w) where
     pub progress_now : progress_at event ≡ progress_of does.reply
     progress_now = ap progress_at does.tells ∙ told_progress does.reply
 
-    pub came_by : (t : ℕ) (l : Pending) → get new.state.pending t ≡ Some l → Came (moved w.moment w.state) does.call does.reply t l
-    came_by t l found = came is_moved.move t l (rw state_is at found)
+    pub came_by : (t : ℕ) (l : Pending) → get new.state.pending t ≡ Some l → PendingFrom (moved w.moment w.state) does.call does.reply t l
+    came_by t l found = pending_from is_moved.move t l (rw state_is at found)
 
-    came_fits : (t : ℕ) (l : Pending) → Came now does.call does.reply t l → CanBeAsked l.x w.state.me
+    came_fits : (t : ℕ) (l : Pending) → PendingFrom now does.call does.reply t l → CanBeAsked l.x w.state.me
     came_fits t l (stayed there other) = g.fits t l there
     came_fits t l (opened k is here called place first empty f) = subst (λ (v : Pending). CanBeAsked v.x w.state.me) is (asked_by k.x does.calls called).1
     came_fits t l (went_on old k is there x goes lookup) = subst (λ (v : Pending). CanBeAsked v.x w.state.me) is (rw x (g.fits t old there))
 
-    came_older : (t : ℕ) (l : Pending) → l.nonce < w.state.next → Came now does.call does.reply t l → get w.state.pending t ≡ Some l
+    came_older : (t : ℕ) (l : Pending) → l.nonce < w.state.next → PendingFrom now does.call does.reply t l → get w.state.pending t ≡ Some l
     came_older t l below (stayed there other) = there
     came_older t l below (opened k is here called place first empty f) = let own : w.state.next ≡ l.nonce = ap (λ (v : Pending). v.nonce) is in absurd (omega (arith, below, own))
     came_older t l below (went_on old k is there x goes lookup) = let own : w.state.next ≡ l.nonce = ap (λ (v : Pending). v.nonce) is in absurd (omega (arith, below, own))

@@ -20,10 +20,10 @@ use Rattle.ddt_check.specs.laws.Statements.{IsFinal, FinalAnswersAreTheAssignmen
 use Rattle.ddt_wire.specs.Referral.{Spells, message_of as referral_of}
 use Rattle.ddt_ecm.specs.laws.Statements.{WrittenSpells, message_of}
 use Rattle.ddt_node.specs.Server.{IsDdtRequest}
-use Rattle.ddt_cache.specs.declared.entry.Entry.{Entry}
+use Rattle.ddt_cache.specs.declared.cache_entry.Entry.{Entry}
 use Rattle.ddt_cache.specs.Entry.{is_negative}
 use Rattle.ddt_resolver.specs.declared.pending.Pending.{Pending}
-use Rattle.ddt_resolver.specs.State.{State, moved, request_bytes, server, patience, numbered}
+use Rattle.ddt_resolver.specs.State.{State, moved, request_bytes, server, reply_timeout_ms, numbered}
 use Rattle.ddt_resolver.specs.Records.{outcome_at, outcome_of}
 use Rattle.ddt_resolver.specs.Step.{ResolverCall}
 use Rattle.ddt_resolver.specs.laws.Shape.{Takes, Goes, anew, keeps, repeats, goes_on}
@@ -46,7 +46,7 @@ use Rattle.ddt_sim.proofs.WaitingLemmas.{spelled_request}
 use Rattle.ddt_path.specs.declared.action.Action.TheVariants.{MsNotRegistered}
 use Rattle.ddt_cache.specs.laws.Live.{live_at-is}
 use Rattle.ddt_resolver.specs.Order.{IsLookup}
-use Rattle.ddt_sim.specs.laws.Ticket.{among_map, Came, stayed, opened, went_on}
+use Rattle.ddt_sim.specs.laws.Ticket.{among_map, PendingFrom, stayed, opened, went_on}
 use Rattle.ddt_sim.proofs.GroundLemmas as ground
 
 -- a locator is a server's or isn't
@@ -76,7 +76,7 @@ pub record IsAsked (past : List Line) (w : World) (to : Locator) (nonce : ℕ) (
   pub below : nonce < w.state.next
   pub opened : Among past (IsOpened t)
   pub before : m ≤ w.moment
-  pub waits : (u : ℕ) (l : Pending) → get w.state.pending u ≡ Some l → l.nonce ≡ nonce → (u ≡ t) × (l.x ≡ x) × (server w.state.me l ≡ to) × (l.deadline ≡ m + patience)
+  pub waits : (u : ℕ) (l : Pending) → get w.state.pending u ≡ Some l → l.nonce ≡ nonce → (u ≡ t) × (l.x ≡ x) × (server w.state.me l ≡ to) × (l.deadline ≡ m + reply_timeout_ms)
 
 -- at a line, of the moment m or a later one, the register in force says this in a reply of this nonce
 pub record IsSpelled (servers : Members) (registers : ℕ → Register) (source : Locator) (bytes : List ℕ) (nonce : ℕ) (x : Xeid) (m : ℕ) (line : Line) : Type 0 where
@@ -104,7 +104,7 @@ pub record IsAged (servers : Members) (registers : ℕ → Register) (past : Lis
   pub within : w.member < servers.count
   pub sent : (k : ℕ) (d : Datagram) → slice_get w.sent k ≡ Some d → IsSent servers registers past w d
   pub entries : (p : List ℕ) (e : Entry) → get w.state.known.live p ≡ Some e → IsTrue (is_negative e.action) → WasYoung registers p e past w
-  pub kept : (t : ℕ) (l : Pending) (rec : ReferralRecord) → get w.state.pending t ≡ Some l → l.kept ≡ Some rec → SomeSince t (λ line. IsNotRegistered (in_force registers line) (xeid_path l.x) rec) past
+  pub kept : (t : ℕ) (l : Pending) (rec : ReferralRecord) → get w.state.pending t ≡ Some l → l.last_not_registered ≡ Some rec → SomeSince t (λ line. IsNotRegistered (in_force registers line) (xeid_path l.x) rec) past
 
 -- ---- a reply that is taken
 
@@ -129,7 +129,7 @@ module _ {servers : Members} {registers : ℕ → Register} (on : HasLaws server
     was_asked a is_server = record { is_server = is_server; fits = a.fits; id = a.id; below = a.below; waits = λ u l found same. let e = a.waits u l found same in (e.1, e.2) }
 
     -- a record that is taken was said since the ask, and not before its last request
-    pub heard_since : {step : Step} {call : ResolverCall} → CallsResolver w step call → {t : ℕ} {l : Pending} {rec : ReferralRecord} → Takes (moved w.moment w.state) call t l rec → (m : ℕ) × (l.deadline ≡ m + patience) × SomeSince t (IsSaid servers registers rec l.x m) past
+    pub heard_since : {step : Step} {call : ResolverCall} → CallsResolver w step call → {t : ℕ} {l : Pending} {rec : ReferralRecord} → Takes (moved w.moment w.state) call t l rec → (m : ℕ) × (l.deadline ≡ m + reply_timeout_ms) × SomeSince t (IsSaid servers registers rec l.x m) past
     heard_since (asked x fits e f) takes = absurd (cc (takes.called, f))
     heard_since (ticked e f) takes = absurd (cc (takes.called, f))
     heard_since (heard k d e found kind f) {t = t} {l = l} {rec = rec} takes = elim (i.sent k d found) [
@@ -210,7 +210,7 @@ module _ {servers : Members} {registers : ℕ → Register} (on : HasLaws server
             below = h.below;
             opened = among_map (line ∷ past) (AsksFor t l.x) (IsOpened t) (λ z asks. asks.1) ((ground_on i.ground part).tickets.asked_for t (numbered s l) h.pending);
             before = f.later;
-            waits = λ u k found same. let e = h.alone u k found same in rw (f.me, ← e.1) (e.0, refl, refl, ap (λ n. n + patience) (at_moment i.ground));
+            waits = λ u k found same. let e = h.alone u k found same in rw (f.me, ← e.1) (e.0, refl, refl, ap (λ n. n + reply_timeout_ms) (at_moment i.ground));
           }
 
       module _ (d : Resolves w step event new) where
@@ -218,7 +218,7 @@ module _ {servers : Members} {registers : ℕ → Register} (on : HasLaws server
           abbrev m : ℕ
           m = (heard_since d.calls saved.takes).0
 
-          due : saved.lookup.deadline ≡ m + patience
+          due : saved.lookup.deadline ≡ m + reply_timeout_ms
           due = (heard_since d.calls saved.takes).1
 
           id : IsTrue (is_path (xeid_path saved.lookup.x))
@@ -254,11 +254,11 @@ module _ {servers : Members} {registers : ℕ → Register} (on : HasLaws server
 
         -- ---- kept records
 
-        kept_goes : (t : ℕ) (old k : Pending) (rec : ReferralRecord) → get w.state.pending t ≡ Some old → Goes s d.call d.reply t old k → IsLookup k → k.x ≡ old.x → k.kept ≡ Some rec
+        kept_goes : (t : ℕ) (old k : Pending) (rec : ReferralRecord) → get w.state.pending t ≡ Some old → Goes s d.call d.reply t old k → IsLookup k → k.x ≡ old.x → k.last_not_registered ≡ Some rec
             → SomeSince t (λ at. IsNotRegistered (in_force registers at) (xeid_path k.x) rec) past
         kept_goes t old k rec here (anew g place first empty) lookup same kept = absurd (none-some rec (sym empty ∙ kept))
         kept_goes t old k rec here (keeps source bytes told called taken g e) lookup same kept =
-            let one : told ≡ rec = same_Some told rec (sym (ap (λ (z : Pending). z.kept) e) ∙ kept) in
+            let one : told ≡ rec = same_Some told rec (sym (ap (λ (z : Pending). z.last_not_registered) e) ∙ kept) in
             let h = heard_since d.calls (record { source = source; bytes = bytes; called = called; taken = taken }) in
             let action : told.action ≡ MsNotRegistered = rw one (lookup.kept_action rec kept) in
             since_map t (IsSaid servers registers told old.x h.0) (λ at. IsNotRegistered (in_force registers at) (xeid_path k.x) rec)
@@ -266,9 +266,9 @@ module _ {servers : Members} {registers : ℕ → Register} (on : HasLaws server
         kept_goes t old k rec here (repeats g over first e) lookup same kept = rw same (i.kept t old rec here (rw e at kept))
         kept_goes t old k rec here (goes_on g over second more e) lookup same kept = rw same (i.kept t old rec here (rw e at kept))
 
-        kept_by : (t : ℕ) (l : Pending) (rec : ReferralRecord) → l.kept ≡ Some rec → Came s d.call d.reply t l → SomeSince t (λ at. IsNotRegistered (in_force registers at) (xeid_path l.x) rec) (line ∷ past)
+        kept_by : (t : ℕ) (l : Pending) (rec : ReferralRecord) → l.last_not_registered ≡ Some rec → PendingFrom s d.call d.reply t l → SomeSince t (λ at. IsNotRegistered (in_force registers at) (xeid_path l.x) rec) (line ∷ past)
         kept_by t l rec is (stayed there other) = inr (i.kept t l rec there is)
-        kept_by t l rec is (opened k own here called place first empty g) = absurd (none-some rec (sym empty ∙ ap (λ (z : Pending). z.kept) own ∙ is))
+        kept_by t l rec is (opened k own here called place first empty g) = absurd (none-some rec (sym empty ∙ ap (λ (z : Pending). z.last_not_registered) own ∙ is))
         kept_by t l rec is (went_on old k own there x goes lookup) =
             inr (subst (λ (v : Pending). SomeSince t (λ at. IsNotRegistered (in_force registers at) (xeid_path v.x) rec) past) own (kept_goes t old k rec there goes lookup x (rw (← own) at is)))
 

@@ -168,7 +168,7 @@ module _ (r : Register) (accepted : IsAccepted r) (laws : InsideLaws r) where
     z = i.lookups t l here
 
     listed : lists l.servers source ≡ true
-    listed = rw from (lists_at l.servers l.place s.me (o.lookups t l here).lookup.place)
+    listed = rw from (lists_at l.servers l.server_index s.me (o.lookups t l here).lookup.place)
 
     abbrev said : List ℕ
     said = (says r source (xeid_path l.x)).prefix
@@ -181,7 +181,7 @@ module _ (r : Register) (accepted : IsAccepted r) (laws : InsideLaws r) where
     at_start p over (site t y is same its servers) =
         rw same at (said_in_site t y source (xeid_path l.x) is (rw same its) (rw same over) (subst (λ (set : List Locator). lists set source ≡ true) servers listed))
 
-    pub inside : (saved start : Option (List ℕ)) → l.saved ≡ saved → l.start ≡ start → IsInside (first_of saved start) said
+    pub inside : (saved start : Option (List ℕ)) → l.last_referral ≡ saved → l.start_entry ≡ start → IsInside (first_of saved start) said
     inside (Some p) start e f = elim z.saved [
       | inl none ↦ absurd (none-some p (sym none ∙ e))
       | inr own ↦ let same : z.zone.prefix ≡ p = same_Some z.zone.prefix p (sym own ∙ e) in rw same at (at_zone z.zone z.is_zone z.covers_x z.servers)
@@ -195,5 +195,5 @@ outside_no_zone p said within out = true≢false (sym within ∙ out)
 pub honest_inside : ((r : Register) → IsAccepted r → InsideLaws r) → HonestRepliesAreInside
 honest_inside laws r s source bytes l rec p accepted o i starts wide fair =
     let from = wide.from_server in
-    let in_zone = inside r accepted (laws r accepted) s o i starts source wide.ticket l from.reply.is_pending from.same_source l.saved l.start refl refl in
+    let in_zone = inside r accepted (laws r accepted) s o i starts source wide.ticket l from.reply.is_pending from.same_source l.last_referral l.start_entry refl refl in
     outside_no_zone p _ (rw wide.beyond.asked at in_zone) (rw fair at wide.beyond.outside)

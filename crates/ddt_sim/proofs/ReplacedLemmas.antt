@@ -14,7 +14,7 @@ use Rattle.ddt_check.specs.Assignment.{assignment}
 use Rattle.ddt_check.specs.Says.{says}
 use Rattle.ddt_ecm.specs.laws.Statements.{message_of}
 use Rattle.ddt_node.specs.Server.{IsDdtRequest}
-use Rattle.ddt_cache.specs.declared.entry.Entry.{Entry}
+use Rattle.ddt_cache.specs.declared.cache_entry.Entry.{Entry}
 use Rattle.ddt_cache.specs.Entry.{is_negative}
 use Rattle.ddt_cache.specs.Found.{IsFound}
 use Rattle.ddt_cache.specs.laws.Live.{live_at-is}
@@ -26,7 +26,7 @@ use Rattle.ddt_resolver.specs.declared.step.Reply.{Reply}
 use Rattle.ddt_resolver.specs.declared.step.Reply.TheVariants.{ToAsk}
 use Rattle.ddt_resolver.specs.State.{State, moved}
 use Rattle.ddt_resolver.specs.Records.{outcome_at, outcome_of}
-use Rattle.ddt_resolver.specs.TakeUp.{Ignores}
+use Rattle.ddt_resolver.specs.MatchReply.{Ignores}
 use Rattle.ddt_resolver.specs.AskStep as ask
 use Rattle.ddt_resolver.specs.AskStep.{AskStep, answer_of}
 use Rattle.ddt_resolver.specs.Step as resolver

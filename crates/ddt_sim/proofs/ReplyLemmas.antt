@@ -21,8 +21,8 @@ use Rattle.ddt_resolver.specs.declared.results.Heard.{Heard}
 use Rattle.ddt_resolver.specs.declared.results.Heard.TheVariants as heard
 use Rattle.ddt_resolver.specs.State.{State, server}
 use Rattle.ddt_resolver.specs.Records.{NamesServer}
-use Rattle.ddt_resolver.specs.TakeUp as takes
-use Rattle.ddt_resolver.specs.TakeUp.{TellsReply, IsTaken, Ignores}
+use Rattle.ddt_resolver.specs.MatchReply as takes
+use Rattle.ddt_resolver.specs.MatchReply.{TellsReply, IsTaken, Ignores}
 use Rattle.ddt_resolver.specs.Act as acts
 use Rattle.ddt_resolver.specs.Act.{Act, HearStep}
 use Rattle.ddt_resolver.specs.Order.{IsStateInOrder}

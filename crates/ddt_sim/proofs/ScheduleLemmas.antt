@@ -19,8 +19,8 @@ use Rattle.ddt_resolver.specs.declared.results.Ignored.{Ignored}
 use Rattle.ddt_resolver.specs.declared.results.Ignored.TheVariants.{UnknownNonce, Late}
 use Rattle.ddt_resolver.specs.State.{State, moved, numbered, request_bytes, server}
 use Rattle.ddt_resolver.specs.Step.{ResolverCall}
-use Rattle.ddt_resolver.specs.TakeUp as takes
-use Rattle.ddt_resolver.specs.TakeUp.{TellsReply, IsTaken, Ignores}
+use Rattle.ddt_resolver.specs.MatchReply as takes
+use Rattle.ddt_resolver.specs.MatchReply.{TellsReply, IsTaken, Ignores}
 use Rattle.ddt_sim.specs.declared.schedule.Step.{Step}
 use Rattle.ddt_sim.specs.declared.schedule.Step.TheVariants.{Replace}
 use Rattle.ddt_sim.specs.declared.schedule.Event.{Event}

@@ -17,8 +17,8 @@ use Rattle.ddt_sim.specs.Sound.{IsSoundLookup}
 use Rattle.ddt_path.specs.laws.Locator.{lists_at}
 
 -- the server that a sound lookup asks is one of the register
-pub asks_a_server : (r : Register) (me : Locator) (l : Pending) → IsSoundLookup r l → l.place < length l.servers → IsServer r (server me l)
-asks_a_server r me l sound place = by (group_named r sound.zone.group) refl (subst (λ (set : List Locator). IsTrue (lists set (server me l))) sound.servers (lists_at l.servers l.place me place))
+pub asks_a_server : (r : Register) (me : Locator) (l : Pending) → IsSoundLookup r l → l.server_index < length l.servers → IsServer r (server me l)
+asks_a_server r me l sound place = by (group_named r sound.zone.group) refl (subst (λ (set : List Locator). IsTrue (lists set (server me l))) sound.servers (lists_at l.servers l.server_index me place))
   where
     by : (found : Option Group) → group_named r sound.zone.group ≡ found → IsTrue (lists (option_map_or (λ (g : Group). g.locators) found []) (server me l)) → IsServer r (server me l)
     by None e none = absurd (false≢true none)

@@ -27,7 +27,7 @@ use Rattle.ddt_resolver.specs.State.{State, opening}
 use Rattle.ddt_resolver.specs.Records.{start_at}
 use Rattle.ddt_resolver.specs.Order.{IsStateInOrder, IsLookup}
 use Rattle.ddt_resolver.specs.laws.Shape.{opening_lookup}
-use Rattle.ddt_sim.specs.declared.hop.Hop.{Hop}
+use Rattle.ddt_sim.specs.declared.lookup_result.Hop.{Hop}
 use Rattle.ddt_sim.specs.Sound.{IsSound, IsSoundLookup}
 use Rattle.ddt_sim.specs.Headline.{IsHonestHop, zones_over}
 use Rattle.ddt_sim.specs.Trail as trail

@@ -11,7 +11,7 @@ use Rattle.ddt_path.specs.declared.record.ReferralRecord.{ReferralRecord}
 use Rattle.ddt_check.specs.laws.Statements.{IsFinal}
 use Rattle.ddt_trie.specs.laws.Entry.{tied}
 use Rattle.ddt_trie.specs.laws.Map.{found_after_insert}
-use Rattle.ddt_cache.specs.declared.entry.Entry.{Entry}
+use Rattle.ddt_cache.specs.declared.cache_entry.Entry.{Entry}
 use Rattle.ddt_cache.specs.Entry.{is_negative, entry_of}
 use Rattle.ddt_cache.specs.Saved.{is_saved}
 use Rattle.ddt_resolver.specs.declared.pending.Pending.{Pending}
@@ -19,7 +19,7 @@ use Rattle.ddt_resolver.specs.declared.results.Heard.{Heard}
 use Rattle.ddt_resolver.specs.declared.results.Ticked.{Ticked}
 use Rattle.ddt_resolver.specs.declared.step.Reply.{Reply}
 use Rattle.ddt_resolver.specs.State.{State}
-use Rattle.ddt_resolver.specs.TakeUp.{IsTaken}
+use Rattle.ddt_resolver.specs.MatchReply.{IsTaken}
 use Rattle.ddt_resolver.specs.AskStep as ask
 use Rattle.ddt_resolver.specs.AskStep.{AskStep}
 use Rattle.ddt_resolver.specs.Act as acts

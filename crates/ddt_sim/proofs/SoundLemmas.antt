@@ -26,7 +26,7 @@ use Rattle.ddt_check.specs.Assignment.{assignment}
 use Rattle.ddt_check.specs.Says.{says}
 use Rattle.ddt_check.specs.laws.Statements.{IsFinal, IsItsZone, negative_prefix, EachIdentifierHasOneZone, TheRootIsServed, ServersReferDownwards, ReferralsAreToZones, FinalAnswersAreTheAssignment, RegisteredPrefixesAreSites, NegativesHoldOfAll}
 use Rattle.ddt_trie.specs.laws.Map.{found_after_insert}
-use Rattle.ddt_cache.specs.declared.entry.Entry.{Entry}
+use Rattle.ddt_cache.specs.declared.cache_entry.Entry.{Entry}
 use Rattle.ddt_cache.specs.Entry.{is_negative, entry_of}
 use Rattle.ddt_cache.specs.Found.{IsFound}
 use Rattle.ddt_cache.specs.Saved.{is_saved}
@@ -34,7 +34,7 @@ use Rattle.ddt_cache.specs.laws.Live.{live_at-is, remove_was_there}
 use Rattle.ddt_resolver.specs.declared.pending.Pending.{Pending}
 use Rattle.ddt_path.specs.Actions.{IsReferral}
 use Rattle.ddt_resolver.specs.Records.{IsBelow, outcome_at, outcome_of, negative_answer, start_at}
-use Rattle.ddt_resolver.specs.State.{State, moved, server, lodged, dropped, stored, forgotten, opening, referred, passed_on, tried_again, at_next}
+use Rattle.ddt_resolver.specs.State.{State, moved, server, request_sent, dropped, stored, forgotten, opening, referred, passed_on, tried_again, at_next}
 use Rattle.ddt_resolver.specs.AskStep.{AskStep, Start, cached, full, used_up, opened, answer_of}
 use Rattle.ddt_resolver.specs.Act as acts
 use Rattle.ddt_resolver.specs.Act.{Act, HearStep}
@@ -101,13 +101,13 @@ negative_of _ e = refl
 
 -- a lookup at the first server of a set is sound where that is the set of a zone of its identifier
 at_zone : {r : Register} {l : Pending} (z : Zone) → Contains r.zones z → IsTrue (covers z.prefix (xeid_path l.x)) → l.servers ≡ locators_of r z.group
-    → (l.saved ≡ None) ⊎ (l.saved ≡ Some z.prefix) → l.kept ≡ None → IsSoundLookup r l
+    → (l.last_referral ≡ None) ⊎ (l.last_referral ≡ Some z.prefix) → l.last_not_registered ≡ None → IsSoundLookup r l
 at_zone z is over servers saved none =
     record { zone = z; is_zone = is; covers_x = over; servers = servers; saved = saved; kept = λ rec h. absurd (none-some rec (sym none ∙ h)) }
 
 -- so is one that differs from a sound one in nothing of this, but for what it keeps
-same_set : {r : Register} {l m : Pending} → IsSoundLookup r l → m.x ≡ l.x → m.servers ≡ l.servers → m.saved ≡ l.saved
-    → ((rec : ReferralRecord) → m.kept ≡ Some rec → IsNotRegistered r (xeid_path l.x) rec) → IsSoundLookup r m
+same_set : {r : Register} {l m : Pending} → IsSoundLookup r l → m.x ≡ l.x → m.servers ≡ l.servers → m.last_referral ≡ l.last_referral
+    → ((rec : ReferralRecord) → m.last_not_registered ≡ Some rec → IsNotRegistered r (xeid_path l.x) rec) → IsSoundLookup r m
 same_set i x servers saved kept =
     record { zone = i.zone; is_zone = i.is_zone; covers_x = rw x i.covers_x; servers = servers ∙ i.servers; saved = rw saved i.saved; kept = rw x kept }
 
@@ -115,8 +115,8 @@ module _ (r : Register) (s : State) (i : IsSound r s) where
   pub sound_dropped : (t : ℕ) → IsSound r (dropped s t)
   sound_dropped t = record { root = i.root; entries = i.entries; lookups = λ u l found. i.lookups u l (found_remove s.pending t u l found).1 }
 
-  pub sound_lodged : (t : ℕ) (l : Pending) → IsSoundLookup r l → IsSound r (lodged s t l)
-  sound_lodged t l sound = record {
+  pub sound_request_sent : (t : ℕ) (l : Pending) → IsSoundLookup r l → IsSound r (request_sent s t l)
+  sound_request_sent t l sound = record {
     root = i.root;
     entries = i.entries;
     lookups = λ u m found. elim (found_insert s.pending t _ u m found) [ inl e ↦ rw (← e.1) (same_set sound refl refl refl sound.kept) | inr e ↦ i.lookups u m e.1 ];
@@ -174,7 +174,7 @@ module _ (r : Register) (laws : KeepsLaws r) (s : State) (o : IsStateInOrder s) 
       by (cached v answer e f) = rw (e, f) (i, remembered x step.prefix step.entry v id step.found answer)
       by (full none many e f) = rw (e, f) (i, tt)
       by (used_up none few over e f) = rw (e, f) (i, tt)
-      by (opened free e f) = rw (e, f) (sound_lodged r s i s.next _ (begun x step.prefix step.entry step.found free.unanswered), tt)
+      by (opened free e f) = rw (e, f) (sound_request_sent r s i s.next _ (begun x step.prefix step.entry step.found free.unanswered), tt)
 
   module _ (t : ℕ) (l : Pending) (here : get s.pending t ≡ Some l) where
     z : IsSoundLookup r l
@@ -192,9 +192,9 @@ module _ (r : Register) (laws : KeepsLaws r) (s : State) (o : IsStateInOrder s) 
 
     down : (rec.action ≢ NotAuthoritative) × (IsReferral rec.action → length z.zone.prefix < length rec.prefix)
     down = laws.downwards z.zone (server s.me l) x z.is_zone z.covers_x
-        (subst (λ (set : List Locator). IsTrue (lists set (server s.me l))) z.servers (lists_at l.servers l.place s.me (o.lookups t l here).lookup.place))
+        (subst (λ (set : List Locator). IsTrue (lists set (server s.me l))) z.servers (lists_at l.servers l.server_index s.me (o.lookups t l here).lookup.place))
 
-    below : IsReferral rec.action → IsBelow l.saved rec.prefix
+    below : IsReferral rec.action → IsBelow l.last_referral rec.prefix
     below k = elim z.saved [ inl none ↦ rw none (omega arith) | inr saved ↦ rw saved (down.1 k) ]
 
     final : IsFinal rec.action → rec ≡ record_of (assignment r x)
@@ -224,20 +224,20 @@ module _ (r : Register) (laws : KeepsLaws r) (s : State) (o : IsStateInOrder s) 
     acted new heard (acts.refers k lower more e f) =
         let h = laws.to_zones (server s.me l) x k in
         let entry : IsTrueEntry r rec.prefix (entry_of s.known.time rec) = rw h.3 (delegates h.0 h.1 refl refl refl) in
-        rw (e, f) (sound_lodged r (stored s rec) (sound_stored r s i rec entry) t (referred l rec) (at_zone h.0 h.1 h.2 (rw h.3 refl) (inr (rw h.3 refl)) refl), tt)
+        rw (e, f) (sound_request_sent r (stored s rec) (sound_stored r s i rec entry) t (referred l rec) (at_zone h.0 h.1 h.2 (rw h.3 refl) (inr (rw h.3 refl)) refl), tt)
     acted new heard (acts.acknowledges k e f) = rw (e, f) (closed (inl k) (ack_entry k))
     acted new heard (acts.closes k e f) = rw (e, f) (closed (inr (inr k)) (negative_entry (inr (inr k)) (rw k refl)))
     acted new heard (acts.passes_on k more room e f) =
         let kept = λ (own : ReferralRecord) (h : Some rec ≡ Some own). subst (IsNotRegistered r x) (same_Some rec own h) (unregistered_record r x rec (final (inr (inl k))) k) in
-        rw (e, f) (sound_lodged r s i t (passed_on l rec) (same_set z refl refl refl kept), tt)
+        rw (e, f) (sound_request_sent r s i t (passed_on l rec) (same_set z refl refl refl kept), tt)
     acted new heard (acts.concludes k last e f) = rw (e, f) (closed (inr (inl k)) (negative_entry (inr (inl k)) (rw k refl)))
     acted new heard (acts.starts_over p k start room e f) = absurd (down.0 k)
     acted new heard (acts.nobody k start e f) = absurd (down.0 k)
     acted new heard (acts.used_up k over e f) = rw (e, f) (sound_dropped r s i t, inr refl)
 
     went_on : (new : State) (ticked : _) → GoOn s t l new ticked → IsSound r new × IsRightTicked r s ticked
-    went_on new ticked (ticks.again first room e f) = rw (e, f) (sound_lodged r s i t (tried_again l) (same_set z refl refl refl z.kept), tt)
-    went_on new ticked (ticks.next_place second more room e f) = rw (e, f) (sound_lodged r s i t (at_next l) (same_set z refl refl refl z.kept), tt)
+    went_on new ticked (ticks.again first room e f) = rw (e, f) (sound_request_sent r s i t (tried_again l) (same_set z refl refl refl z.kept), tt)
+    went_on new ticked (ticks.next_place second more room e f) = rw (e, f) (sound_request_sent r s i t (at_next l) (same_set z refl refl refl z.kept), tt)
     went_on new ticked (ticks.answered rec second last kept e f) = rw (e, f) (sound_dropped r s i t, ended (NotRegistered rec.prefix rec.servers) (kept_is r x rec (z.kept rec kept)))
     went_on new ticked (ticks.no_reply second last none e f) = rw (e, f) (sound_dropped r s i t, inl refl)
     went_on new ticked (ticks.used_up more over e f) = rw (e, f) (sound_dropped r s i t, inr refl)

@@ -10,12 +10,12 @@ use Rattle.ddt_path.specs.declared.locator.Locator.{Locator}
 use Rattle.ddt_path.specs.declared.xeid.Xeid.{Xeid}
 use Rattle.ddt_path.specs.Path.{xeid_path}
 use Rattle.ddt_register.specs.declared.register.Register.{Register}
-use Rattle.ddt_cache.specs.declared.entry.Entry.{Entry}
+use Rattle.ddt_cache.specs.declared.cache_entry.Entry.{Entry}
 use Rattle.ddt_cache.specs.Entry.{is_negative}
 use Rattle.ddt_cache.specs.Found.{IsFound}
 use Rattle.ddt_resolver.specs.declared.pending.Pending.{Pending}
 use Rattle.ddt_resolver.specs.Records.{negative_answer, start_at}
-use Rattle.ddt_resolver.specs.State.{State, numbered, lodged, dropped, stored, forgotten, opening, referred, passed_on, started_over, tried_again, at_next}
+use Rattle.ddt_resolver.specs.State.{State, numbered, request_sent, dropped, stored, forgotten, opening, referred, passed_on, started_over, tried_again, at_next}
 use Rattle.ddt_resolver.specs.AskStep.{Start, cached, full, used_up, opened, answer_of}
 use Rattle.ddt_resolver.specs.Act as acts
 use Rattle.ddt_resolver.specs.Act.{Act}
@@ -27,19 +27,19 @@ use Rattle.ddt_sim.specs.Sound.{IsTrueEntry, delegates, registers, denies, IsSou
 use Rattle.ddt_sim.specs.Inside.{IsTrueStart, zone, site, StartsAreTrue, NewStartsAreTrue, StepsKeepStarts, TimeKeepsStarts, HasteningKeepsStarts, CancellingKeepsStarts, ForgettingKeepsStarts}
 
 abbrev IsStartOf : Register → Pending → Type 0
-IsStartOf r l = (p : List ℕ) → l.saved ≡ None → l.start ≡ Some p → IsTrueStart r l.servers p
+IsStartOf r l = (p : List ℕ) → l.last_referral ≡ None → l.start_entry ≡ Some p → IsTrueStart r l.servers p
 
 module _ (r : Register) (s : State) (starts : StartsAreTrue r s) where
   pub starts_dropped : (t : ℕ) → StartsAreTrue r (dropped s t)
   starts_dropped t u l p found = starts u l p (found_remove s.pending t u l found).1
 
-  starts_lodged : (t : ℕ) (l : Pending) → IsStartOf r l → StartsAreTrue r (lodged s t l)
-  starts_lodged t l own u m p found = elim (found_insert s.pending t (numbered s l) u m found) [
+  starts_request_sent : (t : ℕ) (l : Pending) → IsStartOf r l → StartsAreTrue r (request_sent s t l)
+  starts_request_sent t l own u m p found = elim (found_insert s.pending t (numbered s l) u m found) [
     | inl e ↦ rw (← e.1) (own p)
     | inr e ↦ starts u m p e.1
   ]
 
-  same_start : (t : ℕ) (l m : Pending) → get s.pending t ≡ Some l → m.servers ≡ l.servers → m.saved ≡ l.saved → m.start ≡ l.start → IsStartOf r m
+  same_start : (t : ℕ) (l m : Pending) → get s.pending t ≡ Some l → m.servers ≡ l.servers → m.last_referral ≡ l.last_referral → m.start_entry ≡ l.start_entry → IsStartOf r m
   same_start t l m here servers saved start p none at = rw servers (starts t l p here (sym saved ∙ none) (sym start ∙ at))
 
 unanswered : (a : Action) (p : List ℕ) (ls : List Locator) → negative_answer a p ls ≡ None → IsTrue (is_negative a) → ⊥
@@ -53,8 +53,8 @@ starts_here (d ∷ ds) q e = same_Some (d ∷ ds) q e
 
 went_on : (r : Register) (s : State) (starts : StartsAreTrue r s) (t : ℕ) (l : Pending) (here : get s.pending t ≡ Some l) (new : State) (ticked : _)
     → GoOn s t l new ticked → StartsAreTrue r new
-went_on r s starts t l here new ticked (ticks.again first room e f) = rw e (starts_lodged r s starts t (tried_again l) (same_start r s starts t l (tried_again l) here refl refl refl))
-went_on r s starts t l here new ticked (ticks.next_place second more room e f) = rw e (starts_lodged r s starts t (at_next l) (same_start r s starts t l (at_next l) here refl refl refl))
+went_on r s starts t l here new ticked (ticks.again first room e f) = rw e (starts_request_sent r s starts t (tried_again l) (same_start r s starts t l (tried_again l) here refl refl refl))
+went_on r s starts t l here new ticked (ticks.next_place second more room e f) = rw e (starts_request_sent r s starts t (at_next l) (same_start r s starts t l (at_next l) here refl refl refl))
 went_on r s starts t l here new ticked (ticks.answered rec second last kept e f) = rw e (starts_dropped r s starts t)
 went_on r s starts t l here new ticked (ticks.no_reply second last none e f) = rw e (starts_dropped r s starts t)
 went_on r s starts t l here new ticked (ticks.used_up more over e f) = rw e (starts_dropped r s starts t)
@@ -73,17 +73,17 @@ module _ (r : Register) (s : State) (i : IsSound r s) (starts : StartsAreTrue r 
   asked x p e new a found (cached v answer is f) = rw is starts
   asked x p e new a found (full none many is f) = rw is starts
   asked x p e new a found (used_up none few over is f) = rw is starts
-  asked x p e new a found (opened free is f) = rw is (starts_lodged r s starts s.next (opening x e.servers (start_at p)) (begun x p e found free.unanswered))
+  asked x p e new a found (opened free is f) = rw is (starts_request_sent r s starts s.next (opening x e.servers (start_at p)) (begun x p e found free.unanswered))
 
   module _ (t : ℕ) (l : Pending) (here : get s.pending t ≡ Some l) where
     acted : (rec : _) (new : State) (heard : _) → Act s t l rec new heard → StartsAreTrue r new
     acted rec new heard (acts.loops k loop e f) = rw e (starts_dropped r s starts t)
-    acted rec new heard (acts.refers k lower more e f) = rw e (starts_lodged r (stored s rec) starts t (referred l rec) (λ p none at. absurd (none-some rec.prefix (sym none))))
+    acted rec new heard (acts.refers k lower more e f) = rw e (starts_request_sent r (stored s rec) starts t (referred l rec) (λ p none at. absurd (none-some rec.prefix (sym none))))
     acted rec new heard (acts.acknowledges k e f) = rw e (starts_dropped r (stored s rec) starts t)
     acted rec new heard (acts.closes k e f) = rw e (starts_dropped r (stored s rec) starts t)
-    acted rec new heard (acts.passes_on k more room e f) = rw e (starts_lodged r s starts t (passed_on l rec) (same_start r s starts t l (passed_on l rec) here refl refl refl))
+    acted rec new heard (acts.passes_on k more room e f) = rw e (starts_request_sent r s starts t (passed_on l rec) (same_start r s starts t l (passed_on l rec) here refl refl refl))
     acted rec new heard (acts.concludes k last e f) = rw e (starts_dropped r (stored s rec) starts t)
-    acted rec new heard (acts.starts_over p k start room e f) = rw e (starts_lodged r (forgotten s p) starts t (started_over s l) (λ q none at. absurd (none-some q at)))
+    acted rec new heard (acts.starts_over p k start room e f) = rw e (starts_request_sent r (forgotten s p) starts t (started_over s l) (λ q none at. absurd (none-some q at)))
     acted rec new heard (acts.nobody k start e f) = rw e (starts_dropped r s starts t)
     acted rec new heard (acts.used_up k over e f) = rw e (starts_dropped r s starts t)
 

@@ -34,7 +34,7 @@ use Rattle.ddt_resolver.specs.AskStep as ask
 use Rattle.ddt_resolver.specs.AskStep.{AskStep}
 use Rattle.ddt_resolver.specs.Act as act
 use Rattle.ddt_resolver.specs.Act.{HearStep}
-use Rattle.ddt_resolver.specs.TakeUp.{Ignores}
+use Rattle.ddt_resolver.specs.MatchReply.{Ignores}
 use Rattle.ddt_resolver.specs.Order.{IsStateInOrder}
 use Rattle.ddt_resolver.specs.laws.Shape.{Leaves, by_record, by_kept, by_loop, by_nobody, by_silence, by_nonce}
 use Rattle.ddt_sim.specs.declared.schedule.Step.{Step}

@@ -16,12 +16,12 @@ use Rattle.ddt_resolver.specs.declared.results.Outgoing.{Outgoing}
 use Rattle.ddt_resolver.specs.State.{State, moved, server, numbered, opening, stored, forgotten, referred, passed_on, started_over, tried_again, at_next}
 use Rattle.ddt_resolver.specs.Records.{IsAbout, NamesServer, outcome_of, start_at, IsBelow}
 use Rattle.ddt_resolver.specs.AskStep.{answer_of}
-use Rattle.ddt_resolver.specs.TakeUp.{IsTaken}
+use Rattle.ddt_resolver.specs.MatchReply.{IsTaken}
 use Rattle.ddt_resolver.specs.Order.{IsStateInOrder}
 use Rattle.ddt_resolver.specs.laws.Shape.{opening_lookup, about_covers, referral_apart}
-use Rattle.ddt_sim.specs.declared.hop.Hop.{Hop}
-use Rattle.ddt_sim.specs.declared.hop.Lookup.{Lookup}
-use Rattle.ddt_sim.specs.declared.hop.LookupError.{LookupError}
+use Rattle.ddt_sim.specs.declared.lookup_result.Hop.{Hop}
+use Rattle.ddt_sim.specs.declared.lookup_result.Lookup.{Lookup}
+use Rattle.ddt_sim.specs.declared.lookup_result.LookupError.{LookupError}
 use Rattle.ddt_sim.specs.Waiting.{Waits}
 use Rattle.ddt_sim.specs.Lookup.{Reaches, sent, followed, HasOutcome, at_once, by_reply, hop_of}
 use Rattle.ddt_sim.specs.Sound.{IsSound}
@@ -112,17 +112,17 @@ module _ {now : ℕ} {x : Xeid} (start : State) (fact : Pending → List Hop →
 module _ (now : ℕ) (x : Xeid) (start : State) (outcome : Outcome) (o : IsStateInOrder (moved now start)) (id : IsTrue (is_path (xeid_path x))) where
   -- the hops of a lookup give this outcome
   abbrev gives : Pending → List Hop → Type 0
-  gives l more = l.place < length l.servers → IsTrail x start.me start.known.roots outcome l.saved l.start (drop l.place l.servers) more
+  gives l more = l.server_index < length l.servers → IsTrail x start.me start.known.roots outcome l.last_referral l.start_entry (drop l.server_index l.servers) more
 
   gives_before : HoldsBefore x (moved now start) gives
-  gives_before s l rec base m hop more roots to names (refers k lower) rest here = rw (drop_more l.servers l.place start.me here) (trail.refers rec to k lower (rest (names k)))
-  gives_before s l rec base m hop more roots to names (passes_on k next) rest here = rw (drop_more l.servers l.place start.me here) (trail.passes_on rec to k (rest next))
+  gives_before s l rec base m hop more roots to names (refers k lower) rest here = rw (drop_more l.servers l.server_index start.me here) (trail.refers rec to k lower (rest (names k)))
+  gives_before s l rec base m hop more roots to names (passes_on k next) rest here = rw (drop_more l.servers l.server_index start.me here) (trail.passes_on rec to k (rest next))
   gives_before s l rec base m hop more roots to names (starts_over p k begun) rest here =
-      rw (drop_more l.servers l.place start.me here, begun.start) (trail.starts_over {more = more} p rec to k (subst (λ set. IsTrail x start.me start.known.roots outcome None None set more) roots (rest (rw roots o.root))))
+      rw (drop_more l.servers l.server_index start.me here, begun.start) (trail.starts_over {more = more} p rec to k (subst (λ set. IsTrail x start.me start.known.roots outcome None None set more) roots (rest (rw roots o.root))))
 
   gives_last : {l : Pending} {rec : ReferralRecord} {hop : Hop} → IsHopTo x start.me (server start.me l) hop rec → Closes l rec → outcome ≡ outcome_of rec → gives l (hop ∷ [])
-  gives_last {l = l} to (ends k) is here = rw (drop_more l.servers l.place start.me here) (trail.ends _ to k is)
-  gives_last {l = l} to (concludes k last) is here = rw (drop_more l.servers l.place start.me here, drop_of_length-le l.servers last) (trail.concludes _ to k is)
+  gives_last {l = l} to (ends k) is here = rw (drop_more l.servers l.server_index start.me here) (trail.ends _ to k is)
+  gives_last {l = l} to (concludes k last) is here = rw (drop_more l.servers l.server_index start.me here, drop_of_length-le l.servers last) (trail.concludes _ to k is)
 
   has_trail : {hops : List Hop} → Begins x (moved now start) gives hops → HasTrail x (moved now start) outcome hops
   has_trail b = trail.from_servers b.0 b.1 b.2 b.3 (b.4 (opening_lookup (moved now start) o x id b.0 b.1 b.2 b.3).place)
@@ -193,7 +193,7 @@ module _ (read : MessagesAreRead) (x : Xeid) where
     again : {saved : Option (List ℕ)} {p : List ℕ} (more : List Hop) → rec.action ≡ NotAuthoritative → passed None None more → passed saved (Some p) (hop ∷ more)
     again more k own = rw (told (passes_of more), k) (restarted own)
 
-  passed_before : (s0 : State) → HoldsBefore x s0 (λ l. passed l.saved l.start)
+  passed_before : (s0 : State) → HoldsBefore x s0 (λ l. passed l.last_referral l.start_entry)
   passed_before s0 s l rec base m hop more roots to names (refers k below) own = down to more k below own
   passed_before s0 s l rec base m hop more roots to names (passes_on k next) own = rw (told to (passes_of more), k) own
   passed_before s0 s l rec base m hop more roots to names (starts_over p k begun) own = rw begun.start (again to more k own)
@@ -209,7 +209,7 @@ module _ (read : MessagesAreRead) (x : Xeid) where
 -- however far it has come
 pub passes_are_short : MessagesAreRead → PassesAreShort
 passes_are_short read now x start hops t d s reaches =
-    let b = (reached_along start (λ l. passed read x l.saved l.start) (passed_before read x (moved now start)) reaches).back [] (nothing_yet _ _ _) in
+    let b = (reached_along start (λ l. passed read x l.last_referral l.start_entry) (passed_before read x (moved now start)) reaches).back [] (nothing_yet _ _ _) in
     are_short x hops (rw append-nil at b.4)
 
 -- and of what a call gives
@@ -236,23 +236,23 @@ module _ (s : State) (o : IsStateInOrder s) (t : ℕ) (l : Pending) (here : get 
     removed p = stays (found_remove s.pending u t m (rw p at found)).1
 
     -- a lookup of this ticket is this one
-    lodged_as : (next : Pending) → new.pending ≡ insert s.pending u next → PassGoesOn k next → PassGoesOn l m
-    lodged_as next p goes = inserted u next p (λ same. let own : l ≡ k = same_Some l k (sym here ∙ ap (get s.pending) same ∙ there) in rw own goes)
+    request_sent_as : (next : Pending) → new.pending ≡ insert s.pending u next → PassGoesOn k next → PassGoesOn l m
+    request_sent_as next p goes = inserted u next p (λ same. let own : l ≡ k = same_Some l k (sym here ∙ ap (get s.pending) same ∙ there) in rw own goes)
 
     acted : (rec : _) (h : _) → Act s u k rec new h → PassGoesOn l m
     acted rec h (acts.loops r loop e f) = removed (rw e refl)
-    acted rec h (acts.refers r below more e f) = lodged_as (numbered (stored s rec) (referred k rec)) (rw e refl) (same_pass refl (inr (rec.prefix, refl, below)))
+    acted rec h (acts.refers r below more e f) = request_sent_as (numbered (stored s rec) (referred k rec)) (rw e refl) (same_pass refl (inr (rec.prefix, refl, below)))
     acted rec h (acts.acknowledges a e f) = removed (rw e refl)
     acted rec h (acts.closes a e f) = removed (rw e refl)
-    acted rec h (acts.passes_on a more room e f) = lodged_as (numbered s (passed_on k rec)) (rw e refl) (same_pass refl (inl refl))
+    acted rec h (acts.passes_on a more room e f) = request_sent_as (numbered s (passed_on k rec)) (rw e refl) (same_pass refl (inl refl))
     acted rec h (acts.concludes a last e f) = removed (rw e refl)
-    acted rec h (acts.starts_over p a start room e f) = lodged_as (numbered (forgotten s p) (started_over s k)) (rw e refl) (second_pass start.first refl)
+    acted rec h (acts.starts_over p a start room e f) = request_sent_as (numbered (forgotten s p) (started_over s k)) (rw e refl) (second_pass start.first refl)
     acted rec h (acts.nobody a start e f) = removed (rw e refl)
     acted rec h (acts.used_up on none e f) = removed (rw e refl)
 
     went_on : (h : _) → GoOn s u k new h → PassGoesOn l m
-    went_on h (ticks.again first room e f) = lodged_as (numbered s (tried_again k)) (rw e refl) (same_pass refl (inl refl))
-    went_on h (ticks.next_place second more room e f) = lodged_as (numbered s (at_next k)) (rw e refl) (same_pass refl (inl refl))
+    went_on h (ticks.again first room e f) = request_sent_as (numbered s (tried_again k)) (rw e refl) (same_pass refl (inl refl))
+    went_on h (ticks.next_place second more room e f) = request_sent_as (numbered s (at_next k)) (rw e refl) (same_pass refl (inl refl))
     went_on h (ticks.answered rec second last kept e f) = removed (rw e refl)
     went_on h (ticks.no_reply second last kept e f) = removed (rw e refl)
     went_on h (ticks.used_up has none e f) = removed (rw e refl)

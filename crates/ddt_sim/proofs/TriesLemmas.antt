@@ -21,7 +21,7 @@ use Rattle.ddt_resolver.specs.declared.step.Reply.{Reply}
 use Rattle.ddt_resolver.specs.declared.step.Reply.TheVariants.{ToDatagram}
 use Rattle.ddt_resolver.specs.declared.step.Progress.{Progress}
 use Rattle.ddt_resolver.specs.declared.step.Progress.TheVariants as progress
-use Rattle.ddt_resolver.specs.State.{State, server, numbered, request, patience, moved, tried_again, at_next}
+use Rattle.ddt_resolver.specs.State.{State, server, numbered, request, reply_timeout_ms, moved, tried_again, at_next}
 use Rattle.ddt_resolver.specs.Step.{ResolverCall, progress_of}
 use Rattle.ddt_resolver.specs.laws.Shape.{Goes, anew, keeps, repeats, goes_on, goes_sends, IsLastDue, Leaves, by_record, by_kept, by_loop, by_nobody, by_silence, by_nonce}
 use Rattle.ddt_sim.specs.declared.schedule.Step.{Step}
@@ -33,7 +33,7 @@ use Rattle.ddt_sim.specs.World.{World, Members, MayReply, request_in, request_fr
 use Rattle.ddt_sim.specs.History.{Line, Among}
 use Rattle.ddt_sim.specs.Tries.{Try, try_in, IsSentFor, IsReplyBy, IsHeardBy, IsUnanswered, request_to, IsInVain, IsLater, AreInVain, tries_before, tries_by, tries_of, WasInVain}
 use Rattle.ddt_sim.specs.InForce.{IsNoReplyInForce}
-use Rattle.ddt_sim.specs.laws.Ticket.{IsOf, Came, stayed, opened, went_on}
+use Rattle.ddt_sim.specs.laws.Ticket.{IsOf, PendingFrom, stayed, opened, went_on}
 use Rattle.ddt_sim.proofs.GroundLemmas.{get_last, IsGround, unsent, answered, rest_ends, Part, one_line, Follows, follows, order_now, at_moment, reply_now, progress_now, came_by, heard_by, left_now}
 use Rattle.ddt_sim.proofs.ReplyLemmas.{IsFor, IsUsable, late_or_taken}
 use Rattle.ddt_sim.proofs.WaitingLemmas.{spelled_request}
@@ -89,22 +89,22 @@ pub record Trail (past : List Line) (w : World) (t : ℕ) (l : Pending) : Type 0
   pub last : Try
   pub sent : Among past (IsSentFor t last)
   pub datagram : slice_get w.sent last.number ≡ Some (waits_for w.state.me l)
-  pub deadline : l.deadline ≡ last.moment + patience
+  pub deadline : l.deadline ≡ last.moment + reply_timeout_ms
   pub unanswered : IsUnanswered past last
   pub earlier : List Try
   pub are_all : tries_of t past ≡ last ∷ earlier
-  pub count : length earlier ≡ 2 * l.place + behind l.second
+  pub count : length earlier ≡ 2 * l.server_index + behind l.is_retry
   pub is_later : IsLater last earlier
   pub in_vain : AreInVain past w t l.servers l.x earlier
 
 pub record IsTried (past : List Line) (w : World) : Type 0 where
   pub heard : (reply moment : ℕ) → Among past (IsHeardBy reply moment) → reply < length w.sent
   pub replied : (reply number : ℕ) → Among past (IsReplyBy reply number) → IsReplyTo w.sent reply number
-  pub trails : (t : ℕ) (l : Pending) → get w.state.pending t ≡ Some l → l.kept ≡ None → Trail past w t l
+  pub trails : (t : ℕ) (l : Pending) → get w.state.pending t ≡ Some l → l.last_not_registered ≡ None → Trail past w t l
 
 -- all the tries of a lookup were in vain once the time of the last is over
-all_vain : {past : List Line} {w : World} {t : ℕ} {l : Pending} (h : Trail past w t l) → h.last.moment + patience ≤ w.moment → AreInVain past w t l.servers l.x (h.last ∷ h.earlier)
-all_vain {l = l} h over = (record { sent = h.sent; nonce = l.nonce; request = rw (half (length h.earlier) l.place l.second h.count) h.datagram; over = over; unanswered = h.unanswered }, h.is_later, h.in_vain)
+all_vain : {past : List Line} {w : World} {t : ℕ} {l : Pending} (h : Trail past w t l) → h.last.moment + reply_timeout_ms ≤ w.moment → AreInVain past w t l.servers l.x (h.last ∷ h.earlier)
+all_vain {l = l} h over = (record { sent = h.sent; nonce = l.nonce; request = rw (half (length h.earlier) l.server_index l.is_retry h.count) h.datagram; over = over; unanswered = h.unanswered }, h.is_later, h.in_vain)
 
 -- what requests and replies as bytes stand on
 pub record AreBytesRead : Type 0 where
@@ -142,7 +142,7 @@ module _ (on : AreBytesRead) {servers : Members} {past : List Line} {w : World} 
   reply_stays reply number h = record { request = h.request; bytes = h.bytes; is_request = f.sent number h.request h.is_request; is_reply = f.sent reply _ h.is_reply; usable = h.usable }
 
   -- Nothing changes for a request, unless a reply to it is heard now.
-  unanswered_more : (try : Try) → IsUnanswered past try → ((reply : ℕ) (h : Hearing) → Among past (IsReplyBy reply try.number) → step ≡ Deliver reply → event ≡ Heard h → try.moment + patience ≤ w.moment)
+  unanswered_more : (try : Try) → IsUnanswered past try → ((reply : ℕ) (h : Hearing) → Among past (IsReplyBy reply try.number) → step ≡ Deliver reply → event ≡ Heard h → try.moment + reply_timeout_ms ≤ w.moment)
       → IsUnanswered (line ∷ past) try
   unanswered_more try old now reply came (inl p) (inl q) = absurd (cc (p.1, q.1.1))
   unanswered_more try old now reply came (inl p) (inr q) = let e = (new_reply reply try.number p).0 in let lt = i.heard reply came q in absurd (omega (arith, e, lt))
@@ -165,7 +165,7 @@ module _ (on : AreBytesRead) {servers : Members} {past : List Line} {w : World} 
 
   -- a reply to a lookup of which nothing is told comes late
   heard_late : (t : ℕ) (l : Pending) → get w.state.pending t ≡ Some l → (h : Trail past w t l) → (IsOf (progress_at event) t → ⊥)
-      → (reply : ℕ) (hearing : Hearing) → Among past (IsReplyBy reply h.last.number) → step ≡ Deliver reply → event ≡ Heard hearing → h.last.moment + patience ≤ w.moment
+      → (reply : ℕ) (hearing : Hearing) → Among past (IsReplyBy reply h.last.number) → step ≡ Deliver reply → event ≡ Heard hearing → h.last.moment + reply_timeout_ms ≤ w.moment
   heard_late t l found h untold reply hearing replied is happened = elim part [
     | inl d ↦
         let p = i.replied reply h.last.number replied in
@@ -185,7 +185,7 @@ module _ (on : AreBytesRead) {servers : Members} {past : List Line} {w : World} 
     | inr rest ↦ absurd (cc (rest.idle, ap reply_at happened))
   ]
 
-  keeps_trail : (t : ℕ) (l : Pending) → get w.state.pending t ≡ Some l → l.kept ≡ None → (IsOf (progress_at event) t → ⊥) → Trail (line ∷ past) new t l
+  keeps_trail : (t : ℕ) (l : Pending) → get w.state.pending t ≡ Some l → l.last_not_registered ≡ None → (IsOf (progress_at event) t → ⊥) → Trail (line ∷ past) new t l
   keeps_trail t l found empty untold = let h = i.trails t l found empty in record {
     last = h.last;
     sent = inr h.sent;
@@ -208,7 +208,7 @@ module _ (on : AreBytesRead) {servers : Members} {past : List Line} {w : World} 
     new_unanswered reply came (inr p) q =
         let e = i.replied reply (length w.sent) p in let lt = slice_get_within w.sent (length w.sent) e.request e.is_request in absurd (omega (arith, lt))
 
-    new_trail : (t : ℕ) (l : Pending) → progress_at event ≡ progress.Sends t (request s l) → (earlier : List Try) → tries_before event (tries_of t past) ≡ earlier → length earlier ≡ 2 * l.place + behind l.second
+    new_trail : (t : ℕ) (l : Pending) → progress_at event ≡ progress.Sends t (request s l) → (earlier : List Try) → tries_before event (tries_of t past) ≡ earlier → length earlier ≡ 2 * l.server_index + behind l.is_retry
         → IsLater (try_in w) earlier → AreInVain (line ∷ past) new t l.servers l.x earlier → Trail (line ∷ past) new t (numbered s l)
     new_trail t l sends earlier before count is_later in_vain = record {
       last = try_in w;
@@ -223,8 +223,8 @@ module _ (on : AreBytesRead) {servers : Members} {past : List Line} {w : World} 
       in_vain = in_vain;
     }
 
-    longer_trail : (t : ℕ) (old l : Pending) → progress_at event ≡ progress.Sends t (request s l) → tries_before event (tries_of t past) ≡ tries_of t past → get w.state.pending t ≡ Some old → old.kept ≡ None
-        → old.deadline ≤ s.known.time → l.servers ≡ old.servers → l.x ≡ old.x → 2 * l.place + behind l.second ≡ 2 * old.place + behind old.second + 1 → Trail (line ∷ past) new t (numbered s l)
+    longer_trail : (t : ℕ) (old l : Pending) → progress_at event ≡ progress.Sends t (request s l) → tries_before event (tries_of t past) ≡ tries_of t past → get w.state.pending t ≡ Some old → old.last_not_registered ≡ None
+        → old.deadline ≤ s.known.time → l.servers ≡ old.servers → l.x ≡ old.x → 2 * l.server_index + behind l.is_retry ≡ 2 * old.server_index + behind old.is_retry + 1 → Trail (line ∷ past) new t (numbered s l)
     longer_trail t old l sends before found empty over servers x count =
         let h = i.trails t old found empty in
         let time = at_moment g in let deadline = h.deadline in let number = h.count in
@@ -235,15 +235,15 @@ module _ (on : AreBytesRead) {servers : Members} {past : List Line} {w : World} 
     event_is : (a : Reply) → d.reply ≡ a → event ≡ event_of a
     event_is a e = d.tells ∙ ap event_of e
 
-    gone_on : (t : ℕ) (old l : Pending) → get w.state.pending t ≡ Some old → Goes s d.call d.reply t old l → progress_at event ≡ progress.Sends t (request s l) → l.kept ≡ None → Trail (line ∷ past) new t (numbered s l)
+    gone_on : (t : ℕ) (old l : Pending) → get w.state.pending t ≡ Some old → Goes s d.call d.reply t old l → progress_at event ≡ progress.Sends t (request s l) → l.last_not_registered ≡ None → Trail (line ∷ past) new t (numbered s l)
     gone_on t old l found (anew e place first empty) sends none = new_trail t l sends [] (rw (event_is _ e) refl) (rw (place, first) refl) tt tt
-    gone_on t old l found (keeps source bytes rec called taken e is) sends none = absurd (none-some rec (sym none ∙ ap (λ (z : Pending). z.kept) is))
+    gone_on t old l found (keeps source bytes rec called taken e is) sends none = absurd (none-some rec (sym none ∙ ap (λ (z : Pending). z.last_not_registered) is))
     gone_on t old l found (repeats e over first is) sends none =
         rw is (longer_trail t old (tried_again old) (rw is at sends) (rw (event_is _ e) refl) found (rw is at none) over refl refl (rw first (omega arith)))
     gone_on t old l found (goes_on e over second room is) sends none =
         rw is (longer_trail t old (at_next old) (rw is at sends) (rw (event_is _ e) refl) found (rw is at none) over refl refl (rw second (omega arith)))
 
-    trail_by : (t : ℕ) (l : Pending) → l.kept ≡ None → Came s d.call d.reply t l → Trail (line ∷ past) new t l
+    trail_by : (t : ℕ) (l : Pending) → l.last_not_registered ≡ None → PendingFrom s d.call d.reply t l → Trail (line ∷ past) new t l
     trail_by t l none (stayed there other) = keeps_trail t l there none (λ of. other (rw (progress_now g d) at of))
     trail_by t l none (opened k is here called place first empty e) =
         rw (← is) (new_trail t k (rw (here, event_is _ e) refl) [] (rw (event_is _ e) refl) (rw (place, first) refl) tt tt)
@@ -272,7 +272,7 @@ module _ (on : AreBytesRead) {servers : Members} {past : List Line} {w : World} 
 -- ---- the end without a reply
 
 -- it came at the last server of a lookup that keeps nothing
-last_due : (s : State) (call : ResolverCall) (t : ℕ) (l : Pending) → Leaves s call t l (Err NoReply) → IsLastDue s call l × (l.kept ≡ None)
+last_due : (s : State) (call : ResolverCall) (t : ℕ) (l : Pending) → Leaves s call t l (Err NoReply) → IsLastDue s call l × (l.last_not_registered ≡ None)
 last_due s call t l (by_silence due empty is) = (due, empty)
 last_due s call t l (by_record rec takes final is) = absurd (cc is)
 last_due s call t l (by_kept rec due kept is) = absurd (cc is)
@@ -281,12 +281,12 @@ last_due s call t l (by_nobody rec takes away start is) = absurd (cc is)
 last_due s call t l (by_nonce none is) = absurd (cc is)
 
 module _ {past : List Line} {w : World} (g : IsGround past w) (i : IsTried past w) where
-  no_reply_now : (t : ℕ) (l : Pending) (call : ResolverCall) → get w.state.pending t ≡ Some l → IsLastDue (moved w.moment w.state) call l → l.kept ≡ None → WasInVain past w t
+  no_reply_now : (t : ℕ) (l : Pending) (call : ResolverCall) → get w.state.pending t ≡ Some l → IsLastDue (moved w.moment w.state) call l → l.last_not_registered ≡ None → WasInVain past w t
   no_reply_now t l call found d empty =
       let h : Trail past w t l = i.trails t l found empty in
       let within = (g.order.lookups t l found).lookup.place in
       let at_end = d.at_end in
-      let count : length h.earlier ≡ 2 * l.place + 1 = h.count ∙ ap (λ b. 2 * l.place + behind b) d.second in
+      let count : length h.earlier ≡ 2 * l.server_index + 1 = h.count ∙ ap (λ b. 2 * l.server_index + behind b) d.second in
       let time = at_moment g in let deadline = h.deadline in let over = d.over in
       record {
         lookup = l;

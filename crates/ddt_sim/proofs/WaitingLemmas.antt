@@ -20,10 +20,10 @@ use Rattle.ddt_resolver.specs.declared.results.AskError.TheVariants as ask_error
 use Rattle.ddt_resolver.specs.declared.results.Heard.{Heard}
 use Rattle.ddt_resolver.specs.declared.results.Heard.TheVariants as heard
 use Rattle.ddt_resolver.specs.declared.results.Why.TheVariants.{NoReply, Exhausted}
-use Rattle.ddt_resolver.specs.State.{State, moved, request, request_bytes, numbered, lodged, stored, forgotten, opening, referred, passed_on, started_over, last_nonce, most_pending}
+use Rattle.ddt_resolver.specs.State.{State, moved, request, request_bytes, numbered, request_sent, stored, forgotten, opening, referred, passed_on, started_over, last_nonce, most_pending}
 use Rattle.ddt_resolver.specs.Records.{IsBelow, outcome_of, start_at}
 use Rattle.ddt_resolver.specs.AskStep.{AskStep, Start, cached, full, used_up, opened, answer_of}
-use Rattle.ddt_resolver.specs.TakeUp.{IsTaken}
+use Rattle.ddt_resolver.specs.MatchReply.{IsTaken}
 use Rattle.ddt_resolver.specs.Act as acts
 use Rattle.ddt_resolver.specs.Act.{Act, HearStep, MayStartOver}
 use Rattle.ddt_resolver.specs.laws.NumberMap.{get-insert_same}
@@ -47,7 +47,7 @@ spelled_request written nonce x me few fits = written nonce x (me ∷ []) true (
 -- an ask that sends a request opens a lookup at the entry that is found, under the ticket and with the request
 pub data Opens (s : State) (x : Xeid) : State → ℕ → Outgoing → Type 0 where
   opens : (p : _) (e : _) → IsFound s.known (xeid_path x) p e → answer_of p e ≡ None
-      → Opens s x (lodged s s.next (opening x e.servers (start_at p))) s.next (request s (opening x e.servers (start_at p)))
+      → Opens s x (request_sent s s.next (opening x e.servers (start_at p))) s.next (request s (opening x e.servers (start_at p)))
 
 -- what an ask does, by what is answered to it
 abbrev pub DoesAsk : State → Xeid → State → Result Asked AskError → Type 0
@@ -68,8 +68,8 @@ does_ask {s = s} {new = new} {x = x} {res = res} step = by step.start
 
 -- how a lookup goes on after a record: from which state, and as which lookup
 pub data Onward (s : State) (l : Pending) (rec : ReferralRecord) : State → Pending → Type 0 where
-  refers : IsReferral rec.action → IsBelow l.saved rec.prefix → Onward s l rec (stored s rec) (referred l rec)
-  passes_on : rec.action ≡ MsNotRegistered → l.place + 1 < length l.servers → Onward s l rec s (passed_on l rec)
+  refers : IsReferral rec.action → IsBelow l.last_referral rec.prefix → Onward s l rec (stored s rec) (referred l rec)
+  passes_on : rec.action ≡ MsNotRegistered → l.server_index + 1 < length l.servers → Onward s l rec s (passed_on l rec)
   starts_over : (p : List ℕ) → rec.action ≡ NotAuthoritative → MayStartOver l p → Onward s l rec (forgotten s p) (started_over s l)
 
 pub onward_keeps : {s : State} {l : Pending} {rec : ReferralRecord} {base : State} {m : Pending} → Onward s l rec base m
@@ -80,12 +80,12 @@ onward_keeps _ = (refl, refl, refl, refl)
 -- a reply that a lookup follows, to this state and request
 pub data Follows (s : State) (source : Locator) (reply : List ℕ) (t : ℕ) : State → Outgoing → Type 0 where
   follows : (l : Pending) (rec : ReferralRecord) (base : State) (m : Pending) → IsTaken s source reply t l rec → Onward s l rec base m
-      → Follows s source reply t (lodged base t m) (request base m)
+      → Follows s source reply t (request_sent base t m) (request base m)
 
 -- a record after which it has an outcome
 pub data Closes (l : Pending) (rec : ReferralRecord) : Type 0 where
   ends : (rec.action ≡ MsAck) ⊎ (rec.action ≡ DelegationHole) → Closes l rec
-  concludes : rec.action ≡ MsNotRegistered → length l.servers ≤ l.place + 1 → Closes l rec
+  concludes : rec.action ≡ MsNotRegistered → length l.servers ≤ l.server_index + 1 → Closes l rec
 
 -- what a reply does, by what is answered to it
 abbrev pub Does : State → Locator → List ℕ → State → Heard → Type 0
@@ -119,8 +119,8 @@ waits_on now x s t d w =
     record { lookup = w.lookup; is_pending = w.is_pending; its_x = w.its_x; to = w.to; bytes = w.bytes; deadline = w.deadline ∙ ap (λ n. n + 2000) (sym same); time = later }
 
 -- one that is lodged waits
-abbrev pub lodged_waits : (now : ℕ) (x : Xeid) (s : State) (t : ℕ) (l : Pending) → now ≤ s.known.time → l.x ≡ x → Waits now x (lodged s t l) t (request s l)
-lodged_waits now x s t l le same = record {
+abbrev pub request_sent_waits : (now : ℕ) (x : Xeid) (s : State) (t : ℕ) (l : Pending) → now ≤ s.known.time → l.x ≡ x → Waits now x (request_sent s t l) t (request s l)
+request_sent_waits now x s t l le same = record {
   lookup = numbered s l;
   is_pending = get-insert_same s.pending t (numbered s l);
   its_x = same;
@@ -136,14 +136,14 @@ pub own_lookup : {now t : ℕ} {x : Xeid} {s : State} {d : Outgoing} {source : L
 own_lookup w taken = same_Some _ _ (sym taken.in_time.from_server.reply.is_pending ∙ w.is_pending)
 
 abbrev pub asked_waits : {now t : ℕ} {x : Xeid} {s new : State} {d : Outgoing} → now ≤ s.known.time → Opens s x new t d → Waits now x new t d
-asked_waits le (opens p e found none) = lodged_waits _ _ _ _ (opening _ e.servers (start_at p)) le refl
+asked_waits le (opens p e found none) = request_sent_waits _ _ _ _ (opening _ e.servers (start_at p)) le refl
 
 abbrev pub followed_waits : {now t : ℕ} {x : Xeid} {s new : State} {d e : Outgoing} {source : Locator} {reply : List ℕ}
     → Waits now x s t d → Follows (moved now s) source reply t new e → Waits now x new t e
 followed_waits {now = now} w (follows l rec base m taken on) =
     let k = onward_keeps on in
     let le : now ≤ base.known.time = let same = k.0 in omega arith in
-    lodged_waits _ _ base _ m le (k.1 ∙ ap (λ (p : Pending). p.x) (own_lookup w taken) ∙ w.its_x)
+    request_sent_waits _ _ base _ m le (k.1 ∙ ap (λ (p : Pending). p.x) (own_lookup w taken) ∙ w.its_x)
 
 pub followed_me : {s : State} {source : Locator} {reply : List ℕ} {t : ℕ} {new : State} {e : Outgoing} → Follows s source reply t new e → new.me ≡ s.me
 followed_me (follows l rec base m taken on) = (onward_keeps on).2

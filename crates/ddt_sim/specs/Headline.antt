@@ -16,12 +16,12 @@ use Rattle.ddt_resolver.specs.declared.results.Why.TheVariants.{Exhausted}
 use Rattle.ddt_resolver.specs.declared.results.Asked.{Asked}
 use Rattle.ddt_resolver.specs.AskStep.{AskStep}
 use Rattle.ddt_resolver.specs.State.{State, moved, last_nonce, most_pending, request_bytes}
-use Rattle.ddt_sim.specs.declared.exchange.Turn.{Turn}
-use Rattle.ddt_sim.specs.declared.exchange.Turn.TheVariants.{GoesOn, Ends}
-use Rattle.ddt_sim.specs.declared.hop.Hop.{Hop}
-use Rattle.ddt_sim.specs.declared.hop.Lookup.{Lookup}
-use Rattle.ddt_sim.specs.declared.hop.LookupError.{LookupError}
-use Rattle.ddt_sim.specs.declared.hop.LookupError.TheVariants.{GaveUp, TooMany, Memory}
+use Rattle.ddt_sim.specs.declared.exchange.LookupProgress.{LookupProgress}
+use Rattle.ddt_sim.specs.declared.exchange.LookupProgress.TheVariants.{GoesOn, Ends}
+use Rattle.ddt_sim.specs.declared.lookup_result.Hop.{Hop}
+use Rattle.ddt_sim.specs.declared.lookup_result.Lookup.{Lookup}
+use Rattle.ddt_sim.specs.declared.lookup_result.LookupError.{LookupError}
+use Rattle.ddt_sim.specs.declared.lookup_result.LookupError.TheVariants.{GaveUp, TooMany, Memory}
 use Rattle.ddt_sim.specs.Sound.{IsSound, IsRightAsked}
 use Rattle.ddt_sim.specs.Waiting.{Waits, CanBeAsked}
 
@@ -72,7 +72,7 @@ abbrev pub HasFewHops : Register → Xeid → Lookup → Type 0
 HasFewHops r x l = length l.hops ≤ zones_over r (xeid_path x) + 7
 
 -- an outcome that a reply ends a lookup with is the assignment
-abbrev pub IsRightTurn : Register → Xeid → Turn → Type 0
+abbrev pub IsRightTurn : Register → Xeid → LookupProgress → Type 0
 IsRightTurn r x (GoesOn e) = Unit {0}
 IsRightTurn r x (Ends o) = o ≡ assignment r (xeid_path x)
 
@@ -89,8 +89,8 @@ IsRightError old new TooMany = most_pending ≤ len old.pending
 IsRightError old new Memory = Unit {0}
 
 -- what a request of a lookup of x gives over honest servers, and what it leaves: hops that were honest are honest yet
-pub record IsRightlyTurned (r : Register) (x : Xeid) (me : Locator) (before : List Hop) (res : Result Turn LookupError)
-    (after : List Hop) (new : State) : Type 0 where
+pub record IsRightlyTurned (r : Register) (x : Xeid) (me : Locator) (before : List Hop)
+    (res : Result LookupProgress LookupError) (after : List Hop) (new : State) : Type 0 where
   pub sound : IsSound r new
   pub turn : IfOk res (IsRightTurn r x)
   pub failure : IfErr res (IsRightFailure new)

@@ -97,8 +97,8 @@ pub record AreRegisters (servers : Members) (registers : ℕ → Register) (old 
   pub starts : StartsSound (registers 0) old
 
 -- For all such registers, this holds of each line of the history that a transcript tells, and the lines before it.
-abbrev pub EachLineInForce : ((ℕ → Register) → List Line → Line → Type 0) → Members → State → List Step → Transcript
-    → State → Type 0
+abbrev pub EachLineInForce : ((ℕ → Register) → List Line → Line → Type 0) → Members → State → List Step
+    → Transcript → State → Type 0
 EachLineInForce holds servers old steps t new =
     (registers : ℕ → Register) → AreRegisters servers registers old → (past : List Line)
     → IsTranscriptOf servers old steps t new past → Each (holds registers) past

@@ -39,7 +39,7 @@ pub data IsTrueStart (r : Register) (servers : List Locator) (p : List ℕ) : Ty
 -- each pending lookup that has followed no referral since it started asks the servers of a true start
 abbrev pub StartsAreTrue : Register → State → Type 0
 StartsAreTrue r s =
-    (t : ℕ) (l : Pending) (p : List ℕ) → get s.pending t ≡ Some l → l.saved ≡ None → l.start ≡ Some p
+    (t : ℕ) (l : Pending) (p : List ℕ) → get s.pending t ≡ Some l → l.last_referral ≡ None → l.start_entry ≡ Some p
     → IsTrueStart r l.servers p
 
 -- What the register says at its source of the lookup's identifier lies inside the zone: an honest reply is never wide.

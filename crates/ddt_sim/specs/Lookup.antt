@@ -4,7 +4,7 @@ use Rattle.std.specs.Prelude.{ℕ, ◌≡◌, ◌⊎◌, ◌++◌, List, [], ◌
 use Rattle.ddt_path.specs.declared.record.Outcome.{Outcome}
 use Rattle.ddt_path.specs.declared.xeid.Xeid.{Xeid}
 use Rattle.ddt_path.specs.Path.{xeid_path}
-use Rattle.ddt_cache.specs.declared.entry.Entry.{Entry}
+use Rattle.ddt_cache.specs.declared.cache_entry.Entry.{Entry}
 use Rattle.ddt_cache.specs.Found.{IsFound}
 use Rattle.ddt_resolver.specs.declared.results.Outgoing.{Outgoing}
 use Rattle.ddt_resolver.specs.declared.results.Asked.{Asked}
@@ -18,11 +18,11 @@ use Rattle.ddt_resolver.specs.declared.results.Why.TheVariants.{NoReply, Exhaust
 use Rattle.ddt_resolver.specs.State.{State, moved, dropped}
 use Rattle.ddt_resolver.specs.AskStep.{AskStep, AskWants, answer_of}
 use Rattle.ddt_resolver.specs.Act.{HearStep}
-use Rattle.ddt_sim.specs.declared.hop.Hop.{Hop}
-use Rattle.ddt_sim.specs.declared.hop.LookupError.{LookupError}
-use Rattle.ddt_sim.specs.declared.hop.LookupError.TheVariants.{GaveUp, TooMany, Memory}
-use Rattle.ddt_sim.specs.declared.exchange.Turn.{Turn}
-use Rattle.ddt_sim.specs.declared.exchange.Turn.TheVariants.{GoesOn, Ends}
+use Rattle.ddt_sim.specs.declared.lookup_result.Hop.{Hop}
+use Rattle.ddt_sim.specs.declared.lookup_result.LookupError.{LookupError}
+use Rattle.ddt_sim.specs.declared.lookup_result.LookupError.TheVariants.{GaveUp, TooMany, Memory}
+use Rattle.ddt_sim.specs.declared.exchange.LookupProgress.{LookupProgress}
+use Rattle.ddt_sim.specs.declared.exchange.LookupProgress.TheVariants.{GoesOn, Ends}
 
 -- a request and the reply to it
 abbrev pub hop_of : Outgoing → List ℕ → Hop
@@ -38,7 +38,7 @@ IsNotFor t (heard.Answer u o) = u ≡ t → ⊥
 IsNotFor t (heard.GaveUp u why) = u ≡ t → ⊥
 
 -- what a resolver answers to a reply of its lookup under a ticket
-abbrev pub heard_of : ℕ → Result Turn Why → Heard
+abbrev pub heard_of : ℕ → Result LookupProgress Why → Heard
 heard_of t (Ok (GoesOn e)) = heard.Followed t e
 heard_of t (Ok (Ends o)) = heard.Answer t o
 heard_of t (Err why) = heard.GaveUp t why
@@ -50,14 +50,14 @@ reply_or_failure (Ok None) = Err (GaveUp NoReply)
 reply_or_failure (Err refused) = Err Memory
 
 -- the turn of a lookup whose reply was answered so, or what it fails as; a reply that isn't its own is none
-abbrev pub turn_or_failure : Option (Result Turn Why) → Result Turn LookupError
+abbrev pub turn_or_failure : Option (Result LookupProgress Why) → Result LookupProgress LookupError
 turn_or_failure (Some (Ok turn)) = Ok turn
 turn_or_failure (Some (Err why)) = Err (GaveUp why)
 turn_or_failure None = Err (GaveUp NoReply)
 
 -- The request d of the ticket t was sent at `now` in the state s, and its reply, which one hop more tells, was taken.
-pub record IsLookupTurn (now : ℕ) (s : State) (t : ℕ) (d : Outgoing) (hops : List Hop) (turn : Turn) (more : List Hop)
-    (new : State) : Type 0 where
+pub record IsLookupTurn (now : ℕ) (s : State) (t : ℕ) (d : Outgoing) (hops : List Hop) (turn : LookupProgress)
+    (more : List Hop) (new : State) : Type 0 where
   pub reply : List ℕ
   pub step : HearStep (moved now s) d.to reply new (heard_of t (Ok turn))
   pub hop : more ≡ hops ++ hop_of d reply ∷ []
@@ -71,7 +71,7 @@ pub data TurnFails (now : ℕ) (s : State) (t : ℕ) (d : Outgoing) (error : Loo
   not_taken : (reply : List ℕ) (h : Heard) → HearStep (moved now s) d.to reply after h → IsNotFor t h
       → error ≡ GaveUp NoReply → TurnFails now s t d error after
   stopped : (after ≡ s) ⊎ (after ≡ moved now s) → error ≡ Memory → TurnFails now s t d error after
-  unfinished : (reply : List ℕ) (turn : Turn) → HearStep (moved now s) d.to reply after (heard_of t (Ok turn))
+  unfinished : (reply : List ℕ) (turn : LookupProgress) → HearStep (moved now s) d.to reply after (heard_of t (Ok turn))
       → error ≡ Memory → TurnFails now s t d error after
 
 -- ---- a lookup

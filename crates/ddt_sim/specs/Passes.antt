@@ -17,7 +17,7 @@ use Rattle.ddt_resolver.specs.declared.step.Reply.{Reply}
 use Rattle.ddt_resolver.specs.TickStep.{HastenStep}
 use Rattle.ddt_resolver.specs.Step.{ResolverCall, Step}
 use Rattle.ddt_resolver.specs.Order.{IsStateInOrder}
-use Rattle.ddt_sim.specs.declared.hop.Hop.{Hop}
+use Rattle.ddt_sim.specs.declared.lookup_result.Hop.{Hop}
 use Rattle.ddt_sim.specs.Lookup.{Reaches}
 
 -- A pass is seen as how many referrals it follows. A referral in front is one more in the first pass. A server that
@@ -47,7 +47,7 @@ pub record HasShortPasses (x : Xeid) (hops : List Hop) : Type 0 where
 -- same or a longer one. `second_pass`: its second pass begins. There is no third.
 pub data PassGoesOn (l new : Pending) : Type 0 where
   same_pass : new.restarted ≡ l.restarted
-      → (new.saved ≡ l.saved) ⊎ ((p : List ℕ) × (new.saved ≡ Some p) × IsBelow l.saved p) → PassGoesOn l new
+      → (new.last_referral ≡ l.last_referral) ⊎ ((p : List ℕ) × (new.last_referral ≡ Some p) × IsBelow l.last_referral p) → PassGoesOn l new
   second_pass : l.restarted ≡ false → new.restarted ≡ true → PassGoesOn l new
 
 -- So it is in each step of a resolver, whatever comes, in whichever order: late, twice, among other lookups and ticks.

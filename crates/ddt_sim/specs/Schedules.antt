@@ -102,7 +102,8 @@ KeepServers steps = (k : ℕ) → Contains steps (Replace k) → ⊥
 
 -- Over first servers that are honest to a register and aren't replaced, and from such a resolver, this holds of each
 -- line of the history that a transcript tells, and the lines before it.
-abbrev pub EachLine : (Register → List Line → Line → Type 0) → Members → State → List Step → Transcript → State → Type 0
+abbrev pub EachLine : (Register → List Line → Line → Type 0) → Members → State → List Step → Transcript
+    → State → Type 0
 EachLine holds servers old steps t new =
     (r : Register) → servers.honest 0 r → KeepServers steps → StartsSound r old → (past : List Line)
     → IsTranscriptOf servers old steps t new past → Each (holds r) past

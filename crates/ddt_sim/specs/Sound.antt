@@ -16,7 +16,7 @@ use Rattle.ddt_check.specs.Rules.{IsAccepted}
 use Rattle.ddt_check.specs.Zones.{zone_of, locators_of, roots}
 use Rattle.ddt_check.specs.Assignment.{assignment}
 use Rattle.ddt_check.specs.Says.{says}
-use Rattle.ddt_cache.specs.declared.entry.Entry.{Entry}
+use Rattle.ddt_cache.specs.declared.cache_entry.Entry.{Entry}
 use Rattle.ddt_cache.specs.Entry.{is_negative}
 use Rattle.ddt_resolver.specs.declared.pending.Pending.{Pending}
 use Rattle.ddt_resolver.specs.declared.results.Asked.{Asked}
@@ -34,7 +34,7 @@ use Rattle.ddt_resolver.specs.Order.{IsStateInOrder}
 use Rattle.ddt_resolver.specs.declared.step.Reply.{Reply}
 use Rattle.ddt_resolver.specs.declared.step.Reply.TheVariants.{ToAsk, ToDatagram, ToTick}
 use Rattle.ddt_resolver.specs.Step.{ResolverCall, Ask, Hear, Tick, Step}
-use Rattle.ddt_resolver.specs.TakeUp.{IsTaken}
+use Rattle.ddt_resolver.specs.MatchReply.{IsTaken}
 use Rattle.ddt_resolver.specs.TickStep.{HastenStep}
 
 -- What makes an entry true. `delegates`: a referral to a zone, with the zone's kind and the locators of its group.
@@ -62,8 +62,8 @@ pub record IsSoundLookup (r : Register) (l : Pending) : Type 0 where
   pub is_zone : Contains r.zones zone
   pub covers_x : IsTrue (covers zone.prefix (xeid_path l.x))
   pub servers : l.servers ≡ locators_of r zone.group
-  pub saved : (l.saved ≡ None) ⊎ (l.saved ≡ Some zone.prefix)
-  pub kept : (rec : ReferralRecord) → l.kept ≡ Some rec → IsNotRegistered r (xeid_path l.x) rec
+  pub saved : (l.last_referral ≡ None) ⊎ (l.last_referral ≡ Some zone.prefix)
+  pub kept : (rec : ReferralRecord) → l.last_not_registered ≡ Some rec → IsNotRegistered r (xeid_path l.x) rec
 
 -- A sound resolver has the register's root locators, remembers true entries, and waits in sound lookups.
 pub record IsSound (r : Register) (s : State) : Type 0 where

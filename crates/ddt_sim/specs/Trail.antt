@@ -8,16 +8,16 @@ use Rattle.ddt_path.specs.declared.xeid.Xeid.{Xeid}
 use Rattle.ddt_path.specs.Path.{xeid_path, is_path}
 use Rattle.ddt_register.specs.declared.register.Register.{Register}
 use Rattle.ddt_check.specs.Rules.{IsAccepted}
-use Rattle.ddt_cache.specs.declared.entry.Entry.{Entry}
+use Rattle.ddt_cache.specs.declared.cache_entry.Entry.{Entry}
 use Rattle.ddt_cache.specs.Found.{IsFound}
 use Rattle.ddt_path.specs.Actions.{IsReferral}
 use Rattle.ddt_resolver.specs.Records.{IsAbout, IsBelow, outcome_of, start_at}
 use Rattle.ddt_resolver.specs.State.{State, request_bytes}
-use Rattle.ddt_resolver.specs.TakeUp.{TellsReply}
+use Rattle.ddt_resolver.specs.MatchReply.{TellsReply}
 use Rattle.ddt_resolver.specs.AskStep.{answer_of}
 use Rattle.ddt_resolver.specs.Order.{IsStateInOrder}
-use Rattle.ddt_sim.specs.declared.hop.Hop.{Hop}
-use Rattle.ddt_sim.specs.declared.hop.Lookup.{Lookup}
+use Rattle.ddt_sim.specs.declared.lookup_result.Hop.{Hop}
+use Rattle.ddt_sim.specs.declared.lookup_result.Lookup.{Lookup}
 use Rattle.ddt_sim.specs.Sound.{IsSound}
 use Rattle.ddt_sim.specs.Headline.{HasHonestHops, HasFewHops}
 

@@ -11,7 +11,7 @@ use Rattle.ddt_resolver.specs.declared.results.Heard.{Heard as Hearing}
 use Rattle.ddt_resolver.specs.declared.results.Why.TheVariants.{NoReply}
 use Rattle.ddt_resolver.specs.declared.step.Progress.{Progress}
 use Rattle.ddt_resolver.specs.declared.step.Progress.TheVariants as progress
-use Rattle.ddt_resolver.specs.State.{State, request_bytes, patience}
+use Rattle.ddt_resolver.specs.State.{State, request_bytes, reply_timeout_ms}
 use Rattle.ddt_sim.specs.declared.schedule.Step.TheVariants.{Deliver}
 use Rattle.ddt_sim.specs.declared.schedule.Event.{Event}
 use Rattle.ddt_sim.specs.declared.schedule.Event.TheVariants.{Replied, Heard, Ticked}
@@ -53,7 +53,7 @@ IsHeardBy reply moment line =
 abbrev pub IsUnanswered : List Line → Try → Type 0
 IsUnanswered past try =
     (reply came : ℕ) → Among past (IsReplyBy reply try.number) → Among past (IsHeardBy reply came)
-    → try.moment + patience ≤ came
+    → try.moment + reply_timeout_ms ≤ came
 
 -- the request for x to a server
 abbrev pub request_to : Locator → ℕ → Xeid → Locator → Datagram
@@ -64,7 +64,7 @@ pub record IsInVain (past : List Line) (w : World) (t : ℕ) (to : Locator) (x :
   pub sent : Among past (IsSentFor t try)
   pub nonce : ℕ
   pub request : slice_get w.sent try.number ≡ Some (request_to w.state.me nonce x to)
-  pub over : try.moment + patience ≤ w.moment
+  pub over : try.moment + reply_timeout_ms ≤ w.moment
   pub unanswered : IsUnanswered past try
 
 -- it was sent after the one before it

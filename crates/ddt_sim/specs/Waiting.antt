@@ -7,10 +7,10 @@ use Rattle.ddt_path.specs.declared.locator.Locator.{Locator}
 use Rattle.ddt_wire.specs.Address.{IsAddress}
 use Rattle.ddt_resolver.specs.declared.pending.Pending.{Pending}
 use Rattle.ddt_resolver.specs.declared.results.Outgoing.{Outgoing}
-use Rattle.ddt_resolver.specs.State.{State, server, request_bytes, patience}
+use Rattle.ddt_resolver.specs.State.{State, server, request_bytes, reply_timeout_ms}
 use Rattle.ddt_resolver.specs.Bound.{measure}
-use Rattle.ddt_sim.specs.declared.exchange.Turn.{Turn}
-use Rattle.ddt_sim.specs.declared.exchange.Turn.TheVariants.{GoesOn, Ends}
+use Rattle.ddt_sim.specs.declared.exchange.LookupProgress.{LookupProgress}
+use Rattle.ddt_sim.specs.declared.exchange.LookupProgress.TheVariants.{GoesOn, Ends}
 
 -- The lookup of x under the ticket t waits for the reply to the request d, which was sent at the resolver's time.
 pub record Waits (now : ℕ) (x : Xeid) (s : State) (t : ℕ) (d : Outgoing) : Type 0 where
@@ -19,7 +19,7 @@ pub record Waits (now : ℕ) (x : Xeid) (s : State) (t : ℕ) (d : Outgoing) : T
   pub its_x : lookup.x ≡ x
   pub to : d.to ≡ server s.me lookup
   pub bytes : d.bytes ≡ request_bytes lookup.nonce x s.me
-  pub deadline : lookup.deadline ≡ s.known.time + patience
+  pub deadline : lookup.deadline ≡ s.known.time + reply_timeout_ms
   pub time : now ≤ s.known.time
 
 -- a lookup of some identifier waits for it
@@ -32,7 +32,7 @@ abbrev pub requests_left : State → ℕ → ℕ
 requests_left s t = option_map_or measure (get s.pending t) 0
 
 -- how many after a reply
-abbrev pub left_after : State → ℕ → Turn → ℕ
+abbrev pub left_after : State → ℕ → LookupProgress → ℕ
 left_after new t (GoesOn e) = requests_left new t
 left_after new t (Ends o) = 0
 

@@ -1,4 +1,4 @@
-//! The requests of a lookup, each with what comes back.
+//! The exchange of one request of a lookup for its reply.
 
 ghost use Rattle.std.specs.Prelude.{◌≡◌, ◌<◌, IfOk, IfErr, MatchOption};
 ghost use Rattle.ddt_path.specs.declared.xeid.Xeid.{Xeid as AnXeid};
@@ -7,8 +7,8 @@ ghost use Rattle.ddt_sim.specs.Lookup.{IsLookupTurn, TurnFails, IsNotFor, heard_
 ghost use Rattle.ddt_sim.specs.Waiting.{Waits, requests_left, left_after};
 ghost use Rattle.ddt_sim.specs.Headline.{WhileUnderWay, IsRightlyTurned};
 
-use crate::hop::{Hop, LookupError};
 use crate::laws::requests_are_understood;
+use crate::lookup_result::{Hop, LookupError};
 use crate::servers::Servers;
 use ddt_cache::{Entry, Moment};
 use ddt_path::{Listed, Outcome};
@@ -16,17 +16,17 @@ use ddt_resolver::{Heard, Outgoing, Resolver, Ticket, Why};
 use ddt_trie::PrefixMap;
 use std::alloc::{AllocError, Global};
 
-/// What a reply makes of a lookup.
+/// How a lookup goes on after a reply.
 #[derive(Debug, Drop)]
-pub enum Turn {
-    /// It goes on with this request.
+pub enum LookupProgress {
+    /// It sends this request.
     GoesOn(Outgoing),
     /// It ends with this outcome.
     Ends(Outcome),
 }
 
-/// Sends a lookup's request to its server, and lets the resolver hear what comes back, which is one hop more. It gives
-/// up as 1 NoReply where nothing comes back, or what comes is no reply to this lookup.
+/// Sends a lookup's request to its server, passes the reply to the resolver, and appends the hop. Gives up as 1 NoReply
+/// if there is no reply, or if it isn't for this lookup.
 pub(crate) fn exchange<S: Servers, M: PrefixMap<Entry>>(
     alloc: Global,
     servers: &mut S,
@@ -35,7 +35,7 @@ pub(crate) fn exchange<S: Servers, M: PrefixMap<Entry>>(
     ticket: Ticket,
     request: Outgoing,
     hops: &mut Vec<Hop>,
-) -> Result<Turn, LookupError>
+) -> Result<LookupProgress, LookupError>
     ensures turn { IfOk result (λ turn.
         IsLookupTurn now resolver.old ticket request hops.old.items turn hops.new.items resolver.new) }
     ensures failed { IfErr result (λ error. TurnFails now resolver.old ticket request error resolver.new) }
@@ -43,7 +43,7 @@ pub(crate) fn exchange<S: Servers, M: PrefixMap<Entry>>(
     ensures honest { WhileUnderWay (S.honest servers.old) now resolver.old ticket request (λ r x.
         IsRightlyTurned r x resolver.old.me hops.old.items result hops.new.items resolver.new) }
     ensures stay { (r : Register) → S.honest servers.old r → S.honest servers.new r }
-    // Where the lookup waited, each request that follows leaves fewer that can follow.
+    // If the lookup waited, each next request leaves fewer that can follow.
     ensures nearer { (x : AnXeid) → Waits now x resolver.old ticket request
         → IfOk result (λ turn. left_after resolver.new ticket turn < requests_left resolver.old ticket) }
 {
@@ -68,7 +68,7 @@ pub(crate) fn exchange<S: Servers, M: PrefixMap<Entry>>(
     }
 }
 
-/// The reply that came back. 1 GaveUp as 1 NoReply where none did, and 3 Memory if memory ran out.
+/// The reply. 1 GaveUp as 1 NoReply if there is none, and 3 Memory if out of memory.
 fn replied(answer: Result<Option<Listed<u8>>, AllocError>) -> Result<Listed<u8>, LookupError>
     ensures { result ≡ reply_or_failure answer }
 {
@@ -79,8 +79,8 @@ fn replied(answer: Result<Option<Listed<u8>>, AllocError>) -> Result<Listed<u8>,
     }
 }
 
-/// How a lookup goes on or ends. 1 GaveUp where it gave up, and as 1 NoReply where the reply wasn't for its ticket.
-fn turn_from(heard: Option<Result<Turn, Why>>) -> Result<Turn, LookupError>
+/// How a lookup goes on or ends. 1 GaveUp if it gave up, with reason 1 NoReply if the reply wasn't for its ticket.
+fn turn_from(heard: Option<Result<LookupProgress, Why>>) -> Result<LookupProgress, LookupError>
     ensures { result ≡ turn_or_failure heard }
 {
     match heard {
@@ -90,21 +90,25 @@ fn turn_from(heard: Option<Result<Turn, Why>>) -> Result<Turn, LookupError>
     }
 }
 
-/// What the resolver answered to a reply of a ticket: how the lookup goes on or ends, or why it gave up; None where the
+/// The resolver's result for a reply: how the lookup of the ticket goes on or ends, or why it gave up; None if the
 /// reply wasn't for this ticket.
-fn heard_for(ticket: Ticket, heard: Heard) -> Option<Result<Turn, Why>>
+fn heard_for(ticket: Ticket, heard: Heard) -> Option<Result<LookupProgress, Why>>
     ensures { MatchOption result (IsNotFor ticket heard) (λ turn. heard ≡ heard_of ticket turn) }
 {
     match heard {
-        Heard::Followed(of, next) => if_own(ticket, of, Ok(Turn::GoesOn(next))),
-        Heard::Answer(of, outcome) => if_own(ticket, of, Ok(Turn::Ends(outcome))),
+        Heard::Followed(of, next) => if_own(ticket, of, Ok(LookupProgress::GoesOn(next))),
+        Heard::Answer(of, outcome) => if_own(ticket, of, Ok(LookupProgress::Ends(outcome))),
         Heard::GaveUp(of, why) => if_own(ticket, of, Err(why)),
         Heard::Ignored(_why) => None,
     }
 }
 
-/// What a reply of a ticket makes of its lookup, if that is this ticket.
-fn if_own(ticket: Ticket, of: Ticket, made: Result<Turn, Why>) -> Option<Result<Turn, Why>>
+/// The result of a reply, if it is for this ticket.
+fn if_own(
+    ticket: Ticket,
+    of: Ticket,
+    made: Result<LookupProgress, Why>,
+) -> Option<Result<LookupProgress, Why>>
     ensures { MatchOption result (of ≡ ticket → ⊥) (λ own. (of ≡ ticket) × (own ≡ made)) }
 {
     if of.number() == ticket.number() {

@@ -16,9 +16,9 @@ ghost use Rattle.ddt_sim.specs.Passes.{HasShortPasses, PassesAreShort};
 ghost use Rattle.ddt_sim.specs.Headline.{OverHonest, WhenAsked, WhileUnderWay, IsAnswerToAsk};
 ghost use Rattle.ddt_sim.specs.Headline.{IsAssigned, HasHonestHops, HasFewHops, IsRightlyEnded, IsRightError, most_hops};
 
-use crate::exchange::{Turn, exchange};
-use crate::hop::{Hop, Lookup, LookupError};
+use crate::exchange::{LookupProgress, exchange};
 use crate::laws::{a_step_keeps_a_resolver_sound, honest_trails_are_short, passes_are_short};
+use crate::lookup_result::{Hop, Lookup, LookupError};
 use crate::servers::Servers;
 use ddt_cache::{Entry, Moment};
 use ddt_path::{Listed, Locator, Xeid};
@@ -26,13 +26,13 @@ use ddt_resolver::{AskError, Asked, Outgoing, Resolver, Ticket, Why};
 use ddt_trie::PrefixMap;
 use std::alloc::Global;
 
-/// Looks an identifier up at `now`: asks the resolver, and hands each of its requests to the servers and each reply
-/// back to it, until the outcome is there (RFC 8111, section 7.3). Where the outcome is remembered, no server is asked.
+/// Looks an identifier up at `now`: asks the resolver, and passes its requests to the servers and their replies back to
+/// it, until the outcome is known (RFC 8111, section 7.3). If the outcome is remembered, no server is asked.
 ///
-/// Refused as 1 GaveUp with its reason: 1 NoReply as soon as a server gives no reply, or one that is no reply to this
-/// lookup; 4 Exhausted where no nonce is left. Where a reply makes the resolver give up, the reason is the resolver's.
-/// Refused as 2 TooMany where 1,024 lookups are pending. Fails as 3 Memory only if out of memory. After an error its
-/// own lookup is no longer pending, and what was saved stays.
+/// Refused as 1 GaveUp with its reason: 1 NoReply as soon as a server gives no reply, or one that isn't for this
+/// lookup; 4 Exhausted if no nonce is left. If a reply makes the resolver give up, the reason is the resolver's.
+/// Refused as 2 TooMany if 1,024 lookups are pending. Fails as 3 Memory only if out of memory. After an error its own
+/// lookup is no longer pending, and what was saved stays.
 pub fn lookup<S: Servers, M: PrefixMap<Entry>>(
     alloc: Global,
     servers: &mut S,
@@ -57,15 +57,15 @@ pub fn lookup<S: Servers, M: PrefixMap<Entry>>(
         (λ r. IfErr result (IsRightError resolver.old resolver.new)) }
     // A remembered answer is never refused.
     ensures remembered { IsRemembered x (moved now resolver.old) → IsOk result }
-    // Whatever the servers say: the steps that it took, and how many requests.
+    // Whatever the servers reply: the steps that it took, and the number of its requests.
     ensures steps { IfOk result (λ l. HasOutcome now x resolver.old l.outcome l.hops resolver.new) }
     ensures failed { IfErr result (λ error. Fails now x resolver.old error resolver.new) }
     ensures bound { IfOk result (λ l. length l.hops ≤ most_hops x) }
-    // How its requests follow one another, from the entry that is found for the identifier to the outcome.
+    // How its requests follow one another, from the entry found for the identifier to the outcome.
     ensures trail { IfOk result (λ l. HasTrail x (moved now resolver.old) l.outcome l.hops) }
     // It has at most two passes, and each follows at most one referral more than the identifier has digits.
     ensures passes { IfOk result (λ l. HasShortPasses x l.hops) }
-    // So it is however far a lookup has come, also one that fails.
+    // The same holds at any point of a lookup, also of one that fails.
     ensures under_way { PassesAreShort }
 {
     a_step_keeps_a_resolver_sound();
@@ -83,7 +83,7 @@ pub fn lookup<S: Servers, M: PrefixMap<Entry>>(
     }
 }
 
-/// What a lookup fails as whose ask is refused, or wants memory.
+/// The error of a lookup whose ask is refused.
 fn ask_refused(error: AskError) -> LookupError
     ensures { result ≡ ask_failure error }
 {
@@ -94,7 +94,7 @@ fn ask_refused(error: AskError) -> LookupError
     }
 }
 
-/// What holds of each identifier and each address: their numbers fit. The call does nothing.
+/// A law of identifiers and addresses: their numbers fit. The call does nothing.
 pub(crate) fn can_be_asked(x: Xeid, me: Locator)
     ensures { CanBeAsked x me }
 {
@@ -103,7 +103,7 @@ pub(crate) fn can_be_asked(x: Xeid, me: Locator)
     is_address(me);
 }
 
-/// What holds of each address: its number fits its family. The call does nothing.
+/// A law of addresses: the number fits the family. The call does nothing.
 fn is_address(address: Locator)
     ensures { IsAddress address }
 {
@@ -113,7 +113,7 @@ fn is_address(address: Locator)
     }
 }
 
-/// What comes of an ask: the remembered outcome, or that of the lookup that it opened.
+/// Returns the remembered outcome, or follows the lookup that an ask started.
 fn after_ask<S: Servers, M: PrefixMap<Entry>>(
     alloc: Global,
     servers: &mut S,
@@ -172,8 +172,8 @@ fn follow<S: Servers, M: PrefixMap<Entry>>(
     let mut request = request;
     loop {
         match exchange(alloc, servers, resolver, now, ticket, request, &mut hops) {
-            Ok(Turn::GoesOn(next)) => request = next,
-            Ok(Turn::Ends(outcome)) => {
+            Ok(LookupProgress::GoesOn(next)) => request = next,
+            Ok(LookupProgress::Ends(outcome)) => {
                 return Ok(Lookup {
                     outcome,
                     hops: Listed::of(hops),

@@ -1,4 +1,4 @@
-//! A schedule: steps of a resolver among servers, the datagrams that they send, and what comes of each step.
+//! A schedule: the steps of a resolver and servers, the datagrams sent, and the event of each step.
 
 ghost use Rattle.std.specs.Prelude.{◌≡◌};
 ghost use Rattle.std.specs.Option.{option_copied};
@@ -11,34 +11,34 @@ use ddt_resolver::{AskError, Asked, Heard, Outgoing, Reply, Ticked};
 /// A step of a schedule.
 #[derive(Clone, Copy, Debug, PartialEq, Eq)]
 pub enum Step {
-    /// The resolver is asked for an identifier.
+    /// Asks the resolver for an identifier.
     Ask(Xeid),
-    /// The datagram of this number is handed to whom it is sent to: a request to its server, a reply to the resolver.
+    /// Delivers the datagram of this number: a request to its server, a reply to the resolver.
     Deliver(u64),
-    /// So many milliseconds pass.
+    /// Lets this many milliseconds pass.
     Pass(u64),
-    /// The resolver looks for a lookup whose deadline has come.
+    /// Lets the resolver tick: a lookup whose deadline has come goes on or ends.
     Tick,
-    /// From now on the servers of this number, counted from 0, are in force.
+    /// Puts the servers of this number, counted from 0, in force.
     Replace(u64),
 }
 
-/// What comes of a step.
+/// The event of a step.
 #[derive(Debug, Drop)]
 pub enum Event {
-    /// The ask is answered.
+    /// The resolver answers the ask.
     Asked(Asked),
-    /// The ask is refused: 1 TooMany or 2 Exhausted.
+    /// The resolver refuses the ask: 1 TooMany or 2 Exhausted.
     Refused(AskError),
-    /// The server replies, by the datagram of this number.
+    /// The server replies with the datagram of this number.
     Replied(u64),
     /// The server gives no reply.
     Silent,
-    /// The resolver hears the reply.
+    /// The resolver handles the reply.
     Heard(Heard),
-    /// It is this moment now.
+    /// The time is now this moment.
     Passed(Moment),
-    /// The tick is answered.
+    /// The resolver answers the tick.
     Ticked(Ticked),
     /// The servers of this number are in force now.
     Replaced(u64),
@@ -47,7 +47,7 @@ pub enum Event {
 }
 
 impl Event {
-    /// The event that tells what the resolver answered.
+    /// The event of a resolver's answer.
     pub(crate) fn of(reply: Reply) -> Event
         ensures { result ≡ event_of reply }
     {
@@ -59,7 +59,7 @@ impl Event {
         }
     }
 
-    /// The request that the resolver sends.
+    /// The request that the resolver sends, if any.
     pub(crate) fn request(&self) -> Option<&Outgoing>
         ensures { option_copied result ≡ request_at self.now }
     {
@@ -75,21 +75,21 @@ impl Event {
 /// A datagram of a schedule.
 #[derive(Debug, Drop)]
 pub struct Datagram {
-    /// Who sent it.
+    /// The sender.
     pub source: Locator,
-    /// Whom it is sent to.
+    /// The receiver.
     pub to: Locator,
-    /// Whether a server sent it, and not the resolver.
+    /// Whether a server sent it, not the resolver.
     pub is_reply: bool,
-    /// An Encapsulated Map-Request, or what a server replied to one.
+    /// An Encapsulated Map-Request, or a server's reply to one.
     pub bytes: Listed<u8>,
 }
 
-/// What came of a schedule.
+/// The events and datagrams of a schedule.
 #[derive(Debug, Drop)]
 pub struct Transcript {
-    /// What came of each step, in the order of the steps.
+    /// The event of each step, in the order of the steps.
     pub events: Listed<Event>,
-    /// All datagrams in the order of sending. The number of each is its place, from 0.
+    /// All datagrams in the order of sending. The number of a datagram is its index, from 0.
     pub sent: Listed<Datagram>,
 }

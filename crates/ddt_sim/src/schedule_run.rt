@@ -1,4 +1,4 @@
-//! A run of a schedule: each step, and the datagrams that are sent.
+//! Running a schedule: each step, and the datagrams that it sends.
 
 ghost use Rattle.std.specs.Prelude.{◌≡◌, ◌++◌, ◌<◌, ℕ, IfOk, OnOk, OnErr, IsOk, Some, false, [], List, length, slice_get};
 ghost use Rattle.std.specs.Option.{option_map};
@@ -22,12 +22,12 @@ use ddt_resolver::{Input, Resolver};
 use ddt_trie::PrefixMap;
 use std::alloc::{AllocError, Global};
 
-/// Runs a schedule of steps over servers and a resolver, from the moment that is the resolver's time. A datagram that a
-/// step sends is numbered from 0 on, requests and replies alike. It is handed over only by a Deliver of its number, any
-/// number of times: a request to the servers that are in force then. Pass moves the moment alone, at most to the last
+/// Runs a schedule of steps over servers and a resolver, starting at the resolver's time. The datagrams that steps send
+/// are numbered from 0, requests and replies alike. A datagram is delivered only by a Deliver of its number, any number
+/// of times; a request goes to the servers that are in force then. Pass changes the moment alone, at most to the last
 /// one; the resolver's time follows at its next call.
 ///
-/// At first the servers of number 0 are in force, and from a Replace on those of its number, if there are any.
+/// At first the servers of number 0 are in force, and after a Replace those of its number, if there are any.
 ///
 /// Fails only if out of memory. Then the resolver is as after some first steps, but for the time.
 pub fn run<S: Servers, M: PrefixMap<Entry>>(
@@ -37,7 +37,7 @@ pub fn run<S: Servers, M: PrefixMap<Entry>>(
     steps: &[Step],
 ) -> Result<Transcript, AllocError>
     requires { 0 < length servers.old }
-    // Where no step replaces the servers: over honest servers of an accepted register, and from a resolver that is
+    // If no step replaces the servers: over honest servers of an accepted register, and from a resolver that is
     // sound for it and has nothing pending, each answer is what the register assigns to the identifier of its own ask.
     ensures answers { IfOk result (λ t. AnswersAreRight (members S.honest S.silent servers.old) resolver.old steps.now t
         resolver.new) }
@@ -58,9 +58,9 @@ pub fn run<S: Servers, M: PrefixMap<Entry>>(
     // The resolver is sound afterwards, also where memory stops it.
     ensures sound { (r : Register) → at_place S.honest servers.old 0 r → KeepServers steps.now
         → StartsSound r resolver.old → IsSound r resolver.new }
-    // Where steps replace the servers: over honest servers of accepted registers with the same root locators, which are
-    // silent elsewhere, and from a resolver that is sound for the first and has nothing pending, each answer to a ticket
-    // is what a register assigns to its identifier that was in force at some step since its ask.
+    // If steps replace the servers: over honest servers of accepted registers with the same root locators, which are
+    // silent elsewhere, and from a resolver that is sound for the first and has nothing pending, each answer to a
+    // ticket is what a register assigns to its identifier that was in force at some step since its ask.
     ensures replaced_answers { IfOk result (λ t. AnswersAreSince (members S.honest S.silent servers.old) resolver.old
         steps.now t resolver.new) }
     // Each answer at once is what a register assigns that was in force less than 902,000 milliseconds before.
@@ -98,7 +98,7 @@ pub fn run<S: Servers, M: PrefixMap<Entry>>(
 {
     laws_of_runs();
     resolver.in_order();
-    let mut scene = Scene {
+    let mut scene = RunState {
         moment: resolver.time(),
         member: 0,
         sent: Vec::new(alloc),
@@ -114,9 +114,9 @@ pub fn run<S: Servers, M: PrefixMap<Entry>>(
     })
 }
 
-/// Where a run stands, beside its resolver.
+/// The state of a run, besides its resolver.
 #[derive(Drop)]
-pub(crate) struct Scene {
+pub(crate) struct RunState {
     /// The moment.
     pub(crate) moment: Moment,
     /// The number of the servers in force.
@@ -125,12 +125,12 @@ pub(crate) struct Scene {
     pub(crate) sent: Vec<Datagram>,
 }
 
-/// One step of a schedule.
+/// Takes one step of a schedule.
 fn take_step<S: Servers, M: PrefixMap<Entry>>(
     alloc: Global,
     servers: &mut [S],
     resolver: &mut Resolver<M>,
-    scene: &mut Scene,
+    scene: &mut RunState,
     step: Step,
 ) -> Result<Event, AllocError>
     requires { scene.old.member < length servers.old }
@@ -165,7 +165,7 @@ fn take_step<S: Servers, M: PrefixMap<Entry>>(
     }
 }
 
-/// The moment so many milliseconds later, at most the last one.
+/// The moment `millis` milliseconds later, at most the last one.
 fn later(moment: Moment, millis: u64) -> Moment
     ensures { result ≡ later_than moment millis }
 {
@@ -176,11 +176,11 @@ fn later(moment: Moment, millis: u64) -> Moment
     }
 }
 
-/// The resolver does what a step calls it for, and the request that follows is sent.
+/// Calls the resolver as a step says, and sends the request that follows, if any.
 fn resolve<M: PrefixMap<Entry>>(
     alloc: Global,
     resolver: &mut Resolver<M>,
-    scene: &mut Scene,
+    scene: &mut RunState,
     step: Step,
 ) -> Result<Event, AllocError>
     requires { (call : ResolverCall)
@@ -200,7 +200,7 @@ fn resolve<M: PrefixMap<Entry>>(
     Ok(event)
 }
 
-/// What a step calls the resolver for, if it calls it.
+/// The resolver's input of a step that calls it.
 fn input_of(step: Step, sent: &[Datagram]) -> Input<'_>
     ensures { call_of result ≡ call_at sent.now step }
 {
@@ -214,12 +214,12 @@ fn input_of(step: Step, sent: &[Datagram]) -> Input<'_>
     }
 }
 
-/// A datagram is handed over: a request to the servers in force, a reply to the resolver.
+/// Delivers a datagram: a request to the servers in force, a reply to the resolver.
 fn deliver<S: Servers, M: PrefixMap<Entry>>(
     alloc: Global,
     servers: &mut [S],
     resolver: &mut Resolver<M>,
-    scene: &mut Scene,
+    scene: &mut RunState,
     number: u64,
 ) -> Result<Event, AllocError>
     requires { scene.old.member < length servers.old }
@@ -241,14 +241,14 @@ fn deliver<S: Servers, M: PrefixMap<Entry>>(
     }
 }
 
-/// Whether the datagram of a number is a reply; None where none has it.
+/// Whether the datagram of a number is a reply; None if no datagram has it.
 fn is_reply(sent: &[Datagram], number: u64) -> Option<bool>
     ensures { result ≡ option_map (λ d. d.is_reply) (slice_get sent.now number) }
 {
     sent.get(number as usize).map(|d| d.is_reply)
 }
 
-/// A request is handed to its server: the reply is sent.
+/// Delivers a request to its server, and sends the reply.
 fn serve<S: Servers>(
     alloc: Global,
     servers: &mut S,
@@ -277,7 +277,7 @@ fn serve<S: Servers>(
     Ok(Event::Replied(next))
 }
 
-/// The request of an event is sent, if it has one.
+/// Sends the request of an event, if it has one.
 fn send(
     alloc: Global,
     sent: &mut Vec<Datagram>,

@@ -1,4 +1,4 @@
-//! Servers that a resolver asks, seen by their bytes alone.
+//! The servers that a resolver asks, seen only by their bytes.
 
 ghost use Rattle.std.specs.Prelude.{◌≡◌, IfOk, Ok, None};
 ghost use Rattle.ddt_register.specs.declared.register.Register.{Register};
@@ -15,11 +15,11 @@ pub trait Servers {
     /// register says there.
     ghost honest: { Self → Register → Type 0 };
 
-    /// Whether they give no reply at any locator that no group of a register lists.
+    /// Whether they give no reply at a locator that no group of a register lists.
     ghost silent: { Self → Register → Type 0 };
 
-    /// What comes back for a datagram that is sent to a locator; None where nothing comes back. Fails only if out of
-    /// memory. Honest servers stay honest, and silent ones silent.
+    /// The reply to a datagram that is sent to a locator; None if there is none. Fails only if out of memory. Honest
+    /// servers stay honest, and silent ones silent.
     fn answer(
         &mut self,
         alloc: Global,

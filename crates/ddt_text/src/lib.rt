@@ -2,19 +2,20 @@
 //! (specs/Grammar.antt), else the first fault from left to right (specs/FirstFault.antt). A writer appends the one text
 //! that is written (specs/Written.antt), which spells the value, so that it is read again. Parsers allocate nothing.
 //!
-//! In reading order: `fault`, `number`, `parts`, `locator_text`, `xeid_text`, `prefix_text`.
+//! In reading order: `fault`, `number`, `parts`, `quad`, `address_text`, `xeid_text`, `prefix_text`.
 //! Tests: ddt_format_tests/prefixes/text.
 #![tactic(auto)]
 
+mod address_text;
 mod fault;
-mod locator_text;
 mod number;
 mod parts;
 mod prefix_text;
+mod quad;
 mod xeid_text;
 
+pub use address_text::{parse_locator, write_locator};
 pub use fault::TextFault;
-pub use locator_text::{parse_locator, write_locator};
 pub use number::{number_laws, read_number};
 pub use prefix_text::{parse_prefix, write_prefix};
 pub use xeid_text::{parse_xeid, write_xeid};

@@ -8,8 +8,8 @@ ghost use Rattle.ddt_text.specs.FirstFault.{prefix_or_fault, range_in, block_in,
 ghost use Rattle.ddt_text.specs.Written.{written_prefix};
 ghost use Rattle.ddt_path.specs.Reader.{AreRead, IsAny};
 
+use crate::address_text::{LocatorText, read_address};
 use crate::fault::TextFault;
-use crate::locator_text::{LocatorText, read_address};
 use crate::number::read_u32;
 use crate::parts::{cut, split_brackets};
 use ddt_path::{Form, Prefix, PrefixFault};

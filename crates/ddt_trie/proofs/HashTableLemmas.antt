@@ -22,12 +22,12 @@ use Rattle.ddt_path.specs.declared.form.Form.TheVariants.{Range, Block}
 use Rattle.ddt_path.specs.FormOf.{form_of}
 use Rattle.ddt_path.specs.FormLemmas.{form_of-path}
 use Rattle.ddt_path.specs.Path.{path, IsForm}
-use Rattle.ddt_trie.specs.declared.hash_table.Table.{Table}
+use Rattle.ddt_trie.specs.declared.hash_table.PrefixTable.{PrefixTable}
 use Rattle.ddt_trie.specs.declared.hash_key.BlockKey.{BlockKey}
-use Rattle.ddt_trie.specs.declared.hash_key.Key.{Key}
-use Rattle.ddt_trie.specs.declared.hash_key.Slot.{Slot}
-use Rattle.ddt_trie.specs.declared.hash_key.Slot.TheVariants as slot
-use Rattle.ddt_trie.specs.HashKey.{is_same_block, is_same_key, is_same_slot, key_of, slot_of}
+use Rattle.ddt_trie.specs.declared.hash_key.PrefixKey.{PrefixKey}
+use Rattle.ddt_trie.specs.declared.hash_key.HashKey.{HashKey}
+use Rattle.ddt_trie.specs.declared.hash_key.HashKey.TheVariants as slot
+use Rattle.ddt_trie.specs.HashKey.{is_same_block, is_same_key, is_same_hash_key, key_of, hash_key_of}
 use Rattle.ddt_trie.specs.HashTable.{is_length, value_at, IsSetAt, IsTableOf}
 
 -- as `contains` of a slice asks
@@ -77,24 +77,24 @@ same_block i a m j b n f g =
     path_itself p q (λ k. path (Block (words.0 k) (V4 (words.1 k)) (eqb-true m n parts.1 k))))
 
 -- two forms have one path if and only if they have one key
-pub same_slots : (f g : Form) → IsForm f → IsForm g
-    → is_same_path (path f) (path g) ≡ is_same_slot (slot_of f) (slot_of g)
-same_slots (Range i m) (Range j n) a b = refl
-same_slots (Range i m) (Block j (V4 y) n) a b = apart (Range i m) (Block j (V4 y) n) a b (λ e. cc)
-same_slots (Range i m) (Block j (V6 y) n) a b = refl
-same_slots (Block i (V4 x) m) (Range j n) a b = apart (Block i (V4 x) m) (Range j n) a b (λ e. cc)
-same_slots (Block i (V4 x) m) (Block j (V4 y) n) a b = same_block i x m j y n a b
-same_slots (Block i (V4 x) m) (Block j (V6 y) n) a b = apart (Block i (V4 x) m) (Block j (V6 y) n) a b (λ e. cc)
-same_slots (Block i (V6 x) m) (Range j n) a b = refl
-same_slots (Block i (V6 x) m) (Block j (V4 y) n) a b = apart (Block i (V6 x) m) (Block j (V4 y) n) a b (λ e. cc)
-same_slots (Block i (V6 x) m) (Block j (V6 y) n) a b = refl
+pub same_hash_keys : (f g : Form) → IsForm f → IsForm g
+    → is_same_path (path f) (path g) ≡ is_same_hash_key (hash_key_of f) (hash_key_of g)
+same_hash_keys (Range i m) (Range j n) a b = refl
+same_hash_keys (Range i m) (Block j (V4 y) n) a b = apart (Range i m) (Block j (V4 y) n) a b (λ e. cc)
+same_hash_keys (Range i m) (Block j (V6 y) n) a b = refl
+same_hash_keys (Block i (V4 x) m) (Range j n) a b = apart (Block i (V4 x) m) (Range j n) a b (λ e. cc)
+same_hash_keys (Block i (V4 x) m) (Block j (V4 y) n) a b = same_block i x m j y n a b
+same_hash_keys (Block i (V4 x) m) (Block j (V6 y) n) a b = apart (Block i (V4 x) m) (Block j (V6 y) n) a b (λ e. cc)
+same_hash_keys (Block i (V6 x) m) (Range j n) a b = refl
+same_hash_keys (Block i (V6 x) m) (Block j (V4 y) n) a b = apart (Block i (V6 x) m) (Block j (V4 y) n) a b (λ e. cc)
+same_hash_keys (Block i (V6 x) m) (Block j (V6 y) n) a b = refl
 
-pub other_slot : (form : Form) (p : List ℕ) (i n a : ℕ) → form ≡ Block i (V6 a) n → path form ≡ p
-    → slot.Other (key_of p) ≡ slot_of form
-other_slot form p i n a e is = rw e (ap (λ (q : List ℕ). slot.Other (key_of q)) (sym (rw e at is)))
+pub other_hash_key : (form : Form) (p : List ℕ) (i n a : ℕ) → form ≡ Block i (V6 a) n → path form ≡ p
+    → slot.Other (key_of p) ≡ hash_key_of form
+other_hash_key form p i n a e is = rw e (ap (λ (q : List ℕ). slot.Other (key_of q)) (sym (rw e at is)))
 
-pub nothing_at : {V : Type 0} (t : Table V) → ((k : BlockKey) → hash.get is_same_block t.blocks k ≡ None)
-    → ((k : Key) → hash.get is_same_key t.others k ≡ None) → (f : Form) → value_at t (slot_of f) ≡ None
+pub nothing_at : {V : Type 0} (t : PrefixTable V) → ((k : BlockKey) → hash.get is_same_block t.blocks k ≡ None)
+    → ((k : PrefixKey) → hash.get is_same_key t.others k ≡ None) → (f : Form) → value_at t (hash_key_of f) ≡ None
 nothing_at t blocks others (Range i n) = others _
 nothing_at t blocks others (Block i (V4 a) n) = blocks _
 nothing_at t blocks others (Block i (V6 a) n) = others _
@@ -111,13 +111,15 @@ module _ {V : Type 0} (m : FinMap path_cmp V) (p : List ℕ) (v : V) where
       → after ≡ cond same (Some v) before → after ≡ get (insert m p v) q
   put before after q same old is new = new ∙ ap (cond same (Some v)) old ∙ value_by same q is
 
-  pub put_at : (t u : Table V) (r : Slot) (f : Form) → IsForm f → path f ≡ p → r ≡ slot_of f → IsSetAt t u r v
-      → ((g : Form) → IsForm g → value_at t (slot_of g) ≡ get m (path g))
-      → (g : Form) → IsForm g → value_at u (slot_of g) ≡ get (insert m p v) (path g)
+  pub put_at : (t u : PrefixTable V) (r : HashKey) (f : Form) → IsForm f → path f ≡ p → r ≡ hash_key_of f → IsSetAt t u r v
+      → ((g : Form) → IsForm g → value_at t (hash_key_of g) ≡ get m (path g))
+      → (g : Form) → IsForm g → value_at u (hash_key_of g) ≡ get (insert m p v) (path g)
   put_at t u r f fits is e set same g at =
-      put (value_at t (slot_of g)) (value_at u (slot_of g)) (path g) (is_same_slot (slot_of f) (slot_of g)) (same g at)
-      (ap (λ (q : List ℕ). is_same_path q (path g)) (sym is) ∙ same_slots f g fits at)
-      (set.values (slot_of g) ∙ ap (λ (s : Slot). cond (is_same_slot s (slot_of g)) (Some v) (value_at t (slot_of g))) e)
+      put (value_at t (hash_key_of g)) (value_at u (hash_key_of g)) (path g)
+      (is_same_hash_key (hash_key_of f) (hash_key_of g)) (same g at)
+      (ap (λ (q : List ℕ). is_same_path q (path g)) (sym is) ∙ same_hash_keys f g fits at)
+      (set.values (hash_key_of g)
+      ∙ ap (λ (s : HashKey). cond (is_same_hash_key s (hash_key_of g)) (Some v) (value_at t (hash_key_of g))) e)
 
   key_by : (b : Bool) (q : List ℕ) → is_same_path p q ≡ b → IsTrue (contains_key (insert m p v) q) → (p ≡ q) ⊎ IsTrue (contains_key m q)
   key_by true q e key = inl (same_path p q e)
@@ -144,7 +146,7 @@ abbrev pub HasLengthBelow : {V : Type 0} → List ℕ → FinMap path_cmp V → 
 HasLengthBelow lengths m x n = (p : List ℕ) → IsTrue (contains_key m p) → IsTrue (covers p x)
     → (k : ℕ) × (k < n) × (slice_index_or lengths k (length p) ≡ length p)
 
-module _ {V : Type 0} (t : Table V) (m : FinMap path_cmp V) (is : IsTableOf t m) (x : List ℕ) where
+module _ {V : Type 0} (t : PrefixTable V) (m : FinMap path_cmp V) (is : IsTableOf t m) (x : List ℕ) where
   pub all_below : HasLengthBelow t.lengths.items m x (length t.lengths.items)
   all_below p key c = among t.lengths.items (length p) (is.known p key)
 

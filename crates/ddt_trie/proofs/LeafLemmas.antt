@@ -10,11 +10,11 @@ use Rattle.ddt_path.specs.laws.Share.{shared_len-sym, shares_less, covers-front}
 use Rattle.ddt_trie.specs.PrefixMap.{IsKept}
 use Rattle.ddt_trie.specs.declared.tree.Tree.{Tree}
 use Rattle.ddt_trie.specs.declared.tree.Tree.TheVariants.{Empty, Leaf}
-use Rattle.ddt_trie.specs.declared.tree.Entry.{Entry}
-use Rattle.ddt_trie.specs.Tree.{lookup, is_rooted, HasKept, IsUncovered, IsLongestBelow, IsMet, IsGapBelow}
+use Rattle.ddt_trie.specs.declared.tree.TreeEntry.{TreeEntry}
+use Rattle.ddt_trie.specs.Tree.{lookup, is_rooted, HasKept, IsUncovered, IsLongestBelow, IsMet, IsHoleBelow}
 use Rattle.ddt_trie.proofs.WayLemmas.{long, over, under, shared}
 
-module _ {V : Type 0} (at : ℕ) (p : List ℕ) {t : Tree V} {b : Box (Entry V) Global} (is : t ≡ Leaf b) where
+module _ {V : Type 0} (at : ℕ) (p : List ℕ) {t : Tree V} {b : Box (TreeEntry V) Global} (is : t ≡ Leaf b) where
   abbrev k : List ℕ
   k = b.value.prefix
 
@@ -45,9 +45,9 @@ module _ {V : Type 0} (at : ℕ) (p : List ℕ) {t : Tree V} {b : Box (Entry V) 
     pub leaf_uncovered : covers k p ≡ false → IsUncovered at t (drop at p)
     leaf_uncovered not_so = record { none = λ q c. let e = either q in grind (arith, over at p k le rooted) }
 
-    -- ---- the gap
+    -- ---- the least specific hole
 
-    pub leaf_short : (c : ℕ) → length k < c → IsGapBelow at t (drop at p) c at
+    pub leaf_short : (c : ℕ) → length k < c → IsHoleBelow at t (drop at p) c at
     leaf_short c lt = record {
       front = [];
       depth = omega arith;
@@ -86,8 +86,8 @@ module _ {V : Type 0} (at : ℕ) (p : List ℕ) {t : Tree V} {b : Box (Entry V) 
           covers-front n (drop at p) (drop at k) (omega (arith, in_path))
           ∙ rw turned (let less = shares_less (drop at k) (drop at p) parted.0 in grind (arith, nat_tests))
 
-      pub leaf_gap : (c : ℕ) → c ≤ length k → IsGapBelow at t (drop at p) c (shared_len k p + 1)
-      leaf_gap c counts =
+      pub leaf_hole : (c : ℕ) → c ≤ length k → IsHoleBelow at t (drop at p) c (shared_len k p + 1)
+      leaf_hole c counts =
           let tall : length (take (s + 1) (drop at p)) ≡ s + 1 = length-take-le (s + 1) (drop at p) (omega (arith, in_path)) in
           record {
             front = take (s + 1) (drop at p);
@@ -98,7 +98,7 @@ module _ {V : Type 0} (at : ℕ) (p : List ℕ) {t : Tree V} {b : Box (Entry V) 
             filled = λ n lt le. met_by c (take n (drop at p)) counts (let f = fronts n in grind (arith, nat_tests));
           }
 
-module _ {V : Type 0} {t : Tree V} {b : Box (Entry V) Global} (is : t ≡ Leaf b) (test : V → Bool → Type 0) where
+module _ {V : Type 0} {t : Tree V} {b : Box (TreeEntry V) Global} (is : t ≡ Leaf b) (test : V → Bool → Type 0) where
   dropped : (c : Bool) → test b.value.value false → IsKept test (cond c (Some b.value.value) None) None
   dropped c not_so = grind arith
 

@@ -1,10 +1,10 @@
 pub mod RetainLemmas
-pub mod TurnLemmas
+pub mod BranchLemmas
 pub mod TreeLemmas
 pub mod WayLemmas
 pub mod LeafLemmas
 pub mod DescentLemmas
 pub mod ContentLemmas
-pub mod GapLemmas
+pub mod HoleLemmas
 pub mod HashKeyLemmas
 pub mod HashTableLemmas

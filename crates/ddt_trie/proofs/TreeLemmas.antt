@@ -1,15 +1,16 @@
 -- One node of a tree: what a path finds there, and below it.
-use Rattle.std.proofs.Common.{◌≡◌, ℕ, zero, suc, ◌+◌, ◌<◌, ◌≤◌, Bool, true, false, cond, List, [], ◌∷◌, length, take, drop, Some, None, Option, refl, ap, ◌∙◌, arith, inl, inr}
+use Rattle.std.proofs.Common.{◌≡◌, ℕ, zero, suc, ◌+◌, ◌<◌, ◌≤◌, Bool, true, false, cond, List, [], ◌∷◌, length, take, drop, Some, None, Option, Box, Global, refl, sym, ap, ◌∙◌, arith, inl, inr}
 use Rattle.std.specs.Prelude.{◌⊎◌, ◌&&◌, ◌||◌, ◌==◌, not, nat_lt, nat_le, is_some, IfSome, IfNone}
 use Rattle.std.proofs.lemmas.Bool.{false≢true, cases_Bool}
 use Rattle.std.proofs.lemmas.Bool.Decides.{nat_tests}
 use Rattle.std.proofs.lemmas.Option.{IfSome_then}
 use Rattle.std.proofs.lemmas.List.{length-drop}
+use Rattle.ddt_trie.specs.declared.tree.TreeEntry.{TreeEntry}
 use Rattle.ddt_trie.specs.declared.tree.Tree.{Tree}
 use Rattle.ddt_trie.specs.declared.tree.Tree.TheVariants.{Empty, Leaf, Fork'}
 use Rattle.ddt_path.specs.Covers.{covers}
 use Rattle.ddt_path.specs.laws.Cover.{eqb_self, path_itself}
-use Rattle.ddt_trie.specs.Tree.{low, high, lookup, is_filled, is_pruned, IsUncovered, IsLongestBelow, IsMet, IsGapBelow}
+use Rattle.ddt_trie.specs.Tree.{low, high, lookup, value_in, is_filled, is_pruned, IsUncovered, IsLongestBelow, IsMet, IsHoleBelow}
 
 pub high_apart : (at : ℕ) → (high at == low at) ≡ false
 high_apart at = elim (at == 32) as (λ b. (cond b 6 1 == cond b 4 0) ≡ false) [ true ↦ refl | false ↦ refl ]
@@ -24,7 +25,8 @@ pub record IsStep {V : Type 0} (at : ℕ) (t : Tree V) (y : List ℕ) (s : Tree 
   pub goes : y ≡ digit ∷ r
   pub same : (q : List ℕ) → lookup at t (digit ∷ q) ≡ lookup (at + 1) s q
 
-module _ {V : Type 0} {at : ℕ} {t : Tree V} {p : _} {value : Option V} {z o : Tree V} {y r : List ℕ} (is : t ≡ Fork' p value z o) where
+module _ {V : Type 0} {at : ℕ} {t : Tree V} {p : _} {entry : Option (Box (TreeEntry V) Global)} {z o : Tree V}
+    {y r : List ℕ} (is : t ≡ Fork' p entry z o) where
   pub step_low : y ≡ low at ∷ r → IsStep at t y z r
   step_low goes = record { digit = low at; goes = goes; same = λ q. rw (is, eqb_self (low at)) }
 
@@ -73,28 +75,28 @@ module _ {V : Type 0} {at : ℕ} {t s : Tree V} {y r : List ℕ} (h : IsStep at 
   pub met_below : (c : ℕ) → IsMet (at + 1) s r c → IsMet at t y c
   met_below c m = rw h.goes (met_step r c m)
 
-  gap_filled : (c n : ℕ) → (c ≤ at + 1 → IsMet at t [] c)
+  hole_filled : (c n : ℕ) → (c ≤ at + 1 → IsMet at t [] c)
       → ((k : ℕ) → k < n → c ≤ (at + 1) + (k + 1) → IsMet (at + 1) s (take k r) c)
       → (k : ℕ) → k < suc n → c ≤ at + (k + 1) → IsMet at t (take k y) c
-  gap_filled c n held f zero lt le = held (omega arith)
-  gap_filled c n held f (suc k) lt le = rw h.goes (met_step (take k r) c (f k (omega arith) (omega arith)))
+  hole_filled c n held f zero lt le = held (omega arith)
+  hole_filled c n held f (suc k) lt le = rw h.goes (met_step (take k r) c (f k (omega arith) (omega arith)))
 
-  gap_nothing : (c : ℕ) (front : List ℕ)
+  hole_nothing : (c : ℕ) (front : List ℕ)
       → ((q : List ℕ) → c ≤ (at + 1) + length q → covers front q ≡ true → lookup (at + 1) s q ≡ None)
       → (q : List ℕ) → c ≤ at + length q → covers (h.digit ∷ front) q ≡ true → lookup at t q ≡ None
-  gap_nothing c front u [] n k = grind arith
-  gap_nothing c front u (e ∷ q) n k =
+  hole_nothing c front u [] n k = grind arith
+  hole_nothing c front u (e ∷ q) n k =
       let is : e ≡ h.digit = grind (arith, nat_tests) in rw is (h.same q ∙ u q (omega arith) (grind arith))
 
-  pub gap_step : (c n : ℕ) → (c ≤ at → lookup at t [] ≡ None) → (c ≤ at + 1 → IsMet at t [] c)
-      → IsGapBelow (at + 1) s r c n → IsGapBelow at t y c n
-  gap_step c n none held g = record {
+  pub hole_step : (c n : ℕ) → (c ≤ at → lookup at t [] ≡ None) → (c ≤ at + 1 → IsMet at t [] c)
+      → IsHoleBelow (at + 1) s r c n → IsHoleBelow at t y c n
+  hole_step c n none held g = record {
     front = h.digit ∷ g.front;
     depth = omega (arith, g.depth);
     covers_it = out_of g.front g.covers_it;
     uncovered = λ q le k. let on = onto q k in grind (arith, h.same, g.uncovered);
-    nothing = λ q le k. gap_nothing c g.front g.nothing q le k;
-    filled = λ k lt le. gap_filled c (length g.front) held g.filled k lt le;
+    nothing = λ q le k. hole_nothing c g.front g.nothing q le k;
+    filled = λ k lt le. hole_filled c (length g.front) held g.filled k lt le;
   }
 
 alone : (q y : List ℕ) → y ≡ [] → covers q y ≡ true → q ≡ []
@@ -118,10 +120,18 @@ module _ {V : Type 0} where
   empty_none : (at : ℕ) (t : Tree V) (q : List ℕ) → is_filled t ≡ false → lookup at t q ≡ None
   empty_none at t q h = grind arith
 
+  valued : (entry : Option (Box (TreeEntry V) Global)) → is_some entry ≡ true → (v : V) × (value_in entry ≡ Some v)
+  valued None told = absurd (false≢true told)
+  valued (Some b) told = (b.value.value, refl)
+
+  unvalued : (entry : Option (Box (TreeEntry V) Global)) → is_some entry ≡ false → value_in entry ≡ None
+  unvalued None told = refl
+  unvalued (Some b) told = absurd (false≢true (sym told))
+
   abbrev is_branched : Tree V → Bool
   is_branched Empty = false
   is_branched (Leaf b) = false
-  is_branched (Fork' p value z o) = is_filled z || is_filled o
+  is_branched (Fork' p entry z o) = is_filled z || is_filled o
 
   -- a subtree has an entry, and one below its first node where that has a child
   some_entry : (at : ℕ) (t : Tree V) → is_filled t ≡ true → is_pruned t ≡ true
@@ -130,24 +140,24 @@ module _ {V : Type 0} where
   some_entry at (Leaf b) f h =
       let q = drop at b.value.prefix in
       (q, b.value.value, rw (path_itself q q refl), λ n. absurd (false≢true n))
-  some_entry at (Fork' p value z o) f h =
+  some_entry at (Fork' p entry z o) f h =
       elim (cases_Bool (is_filled z)) [
         | inl l ↦ let e = some_entry (at + 1) z l (grind arith) in (low at ∷ e.0, e.1, rw (eqb_self (low at)) e.2, λ n. omega arith)
         | inr k ↦ elim (cases_Bool (is_filled o)) [
           | inl r ↦
               let e = some_entry (at + 1) o r (grind arith) in
               (high at ∷ e.0, e.1, rw (high_apart at, eqb_self (high at)) e.2, λ n. omega arith)
-          | inr m ↦ let w : (v : V) × (value ≡ Some v) = grind arith in ([], w.0, w.1, λ n. absurd (grind arith))
+          | inr m ↦ let w = valued entry (grind arith) in ([], w.0, w.1, λ n. absurd (grind arith))
         ]
       ]
 
-module _ (c : ℕ) {V : Type 0} {at : ℕ} {t : Tree V} {p : _} {value : Option V} {z o : Tree V} {b : Bool}
-    (is : t ≡ Fork' p value z o) where
+module _ (c : ℕ) {V : Type 0} {at : ℕ} {t : Tree V} {p : _} {entry : Option (Box (TreeEntry V) Global)} {z o : Tree V}
+    {b : Bool} (is : t ≡ Fork' p entry z o) where
   -- ---- what a node's two tests say
 
   -- a node above the depth c with no child has nothing below it that counts
-  pub gap_short : {y : List ℕ} → b ≡ (nat_lt at c && not (is_filled z || is_filled o)) → b ≡ true → IsGapBelow at t y c at
-  gap_short answer told = record {
+  pub hole_short : {y : List ℕ} → b ≡ (nat_lt at c && not (is_filled z || is_filled o)) → b ≡ true → IsHoleBelow at t y c at
+  hole_short answer told = record {
     front = [];
     depth = omega arith;
     covers_it = refl;
@@ -168,17 +178,17 @@ module _ (c : ℕ) {V : Type 0} {at : ℕ} {t : Tree V} {p : _} {value : Option 
       let child : (is_filled z || is_filled o) ≡ true → 1 ≤ length e.0 = λ h. e.3 (rw is h) in
       record { path = e.0; value = e.1; found = e.2; counts = grind (arith, nat_tests); meets = grind arith }
 
-  pub counted_met : {y : List ℕ} → b ≡ (nat_le c at && is_some value) → b ≡ true → IsMet at t y c
+  pub counted_met : {y : List ℕ} → b ≡ (nat_le c at && is_some entry) → b ≡ true → IsMet at t y c
   counted_met answer told =
-      let w : (v : V) × (value ≡ Some v) = grind arith in
+      let w = valued entry (grind arith) in
       record { path = []; value = w.0; found = rw is w.1; counts = grind (arith, nat_tests); meets = refl }
 
-  pub gap_node : {y r : List ℕ} {s : Tree V} {d : Bool} (found : Option ℕ) → IsStep at t y s r
+  pub hole_node : {y r : List ℕ} {s : Tree V} {d : Bool} (found : Option ℕ) → IsStep at t y s r
       → b ≡ (nat_lt at c && not (is_filled z || is_filled o)) → b ≡ false
-      → d ≡ (nat_le c at && is_some value) → d ≡ false → is_pruned t ≡ true
-      → IfSome found (λ n. IsGapBelow (at + 1) s r c n) → IfSome found (λ n. IsGapBelow at t y c n)
-  gap_node found step short short_told counts counts_told pruned gap =
-      IfSome_then found gap (λ n g. gap_step step c n (λ le. rw is (grind (arith, nat_tests)))
+      → d ≡ (nat_le c at && is_some entry) → d ≡ false → is_pruned t ≡ true
+      → IfSome found (λ n. IsHoleBelow (at + 1) s r c n) → IfSome found (λ n. IsHoleBelow at t y c n)
+  hole_node found step short short_told counts counts_told pruned least_specific_hole =
+      IfSome_then found least_specific_hole (λ n g. hole_step step c n (λ le. rw is (unvalued entry (grind (arith, nat_tests))))
       (λ le. held_below short short_told pruned le) g)
 
 -- a path that ends at a node has no digit from there on

@@ -1,6 +1,6 @@
 -- The digits on the way to a leaf, with which its prefix begins as the path that is looked for does.
-use Rattle.std.proofs.Common.{◌≡◌, ℕ, ◌+◌, ◌≤◌, Bool, true, false, cond, List, [], ◌∷◌, ◌++◌, length, take, drop, Some, None, Box, Bor, Global, refl, sym, ap, ◌∙◌, arith}
-use Rattle.std.specs.Prelude.{◌&&◌, ◌||◌, not, is_some, Option, IsTrue}
+use Rattle.std.proofs.Common.{◌≡◌, ℕ, ◌+◌, ◌≤◌, Bool, true, false, cond, List, [], ◌∷◌, ◌++◌, length, take, drop, Some, None, Option, Box, Bor, Global, refl, sym, ap, ◌∙◌, arith}
+use Rattle.std.specs.Prelude.{◌&&◌, ◌||◌, not, is_some, IsTrue}
 use Rattle.std.specs.Option.{option_copied}
 use Rattle.std.specs.Bool.{then_some}
 use Rattle.std.proofs.lemmas.Bool.{and_parts}
@@ -11,7 +11,7 @@ use Rattle.ddt_path.specs.laws.Cover.{eqb_self, take-covered, length-covered, fr
 use Rattle.ddt_path.specs.laws.Share.{shared_len-append, covers_both}
 use Rattle.ddt_trie.specs.declared.tree.Tree.{Tree}
 use Rattle.ddt_trie.specs.declared.tree.Tree.TheVariants.{Empty, Leaf, Fork'}
-use Rattle.ddt_trie.specs.declared.tree.Entry.{Entry}
+use Rattle.ddt_trie.specs.declared.tree.TreeEntry.{TreeEntry}
 use Rattle.ddt_trie.specs.Tree.{low, high, lookup, onward, PathGoesOn, HasSameEntriesAt, is_rooted, is_filled, is_pruned}
 use Rattle.ddt_trie.proofs.TreeLemmas.{high_apart}
 
@@ -21,9 +21,9 @@ use Rattle.ddt_trie.proofs.TreeLemmas.{high_apart}
 abbrev pub AreRooted : {V : Type 0} → List ℕ → Tree V → Tree V → Type 0
 AreRooted way z o = IsTrue (is_rooted (onward low way) z && is_rooted (onward high way) o)
 
--- a node has a value or a child, and its children are pruned
-abbrev pub ArePruned : {V : Type 0} → Option V → Tree V → Tree V → Type 0
-ArePruned value z o = IsTrue ((is_some value || (is_filled z || is_filled o)) && (is_pruned z && is_pruned o))
+-- a node has an entry of its own or a child, and its children are pruned
+abbrev pub ArePruned : {V : Type 0} → Option (Box (TreeEntry V) Global) → Tree V → Tree V → Type 0
+ArePruned entry z o = IsTrue ((is_some entry || (is_filled z || is_filled o)) && (is_pruned z && is_pruned o))
 
 module _ {V : Type 0} (at : ℕ) (p : List ℕ) (z o : Tree V) where
   pub into_low : PathGoesOn low at p → AreRooted (take at p) z o → IsTrue (is_rooted (take (at + 1) p) z)
@@ -40,18 +40,24 @@ module _ {V : Type 0} (at : ℕ) (p : List ℕ) (z o : Tree V) where
       → AreRooted (take at p) z s
   from_high s h on new = let told = rw on.3 at new in grind arith
 
--- ---- a node whose child is another tree, which has entries if the child had
+-- ---- a node with another entry of its own, if it had one, or whose child is another tree, which has entries if the
+-- child had
 
-module _ {V : Type 0} (value : Option V) (z o : Tree V) (h : ArePruned value z o) where
+module _ {V : Type 0} (entry : Option (Box (TreeEntry V) Global)) (z o : Tree V) (h : ArePruned entry z o) where
   -- both children of a node are pruned
   pub below : (is_pruned z ≡ true) × (is_pruned o ≡ true)
-  below = and_parts (is_pruned z) (is_pruned o) (and_parts (is_some value || (is_filled z || is_filled o)) _ h).1
+  below = and_parts (is_pruned z) (is_pruned o) (and_parts (is_some entry || (is_filled z || is_filled o)) _ h).1
 
-  pub pruned_low : (s : Tree V) → (IsTrue (is_filled z) → IsTrue (is_filled s)) → IsTrue (is_pruned s) → ArePruned value s o
+  pub pruned_own : (new : Option (Box (TreeEntry V) Global)) → (IsTrue (is_some entry) → IsTrue (is_some new))
+      → ArePruned new z o
+  pruned_own new still = grind arith
+
+  pub pruned_low : (s : Tree V) → (IsTrue (is_filled z) → IsTrue (is_filled s)) → IsTrue (is_pruned s)
+      → ArePruned entry s o
   pruned_low s still new = grind arith
 
   pub pruned_high : (s : Tree V) → (IsTrue (is_filled o) → IsTrue (is_filled s)) → IsTrue (is_pruned s)
-      → ArePruned value z s
+      → ArePruned entry z s
   pruned_high s still new = grind arith
 
 -- ---- two paths that begin with the same digits
@@ -115,11 +121,11 @@ module _ (at : ℕ) (p k : List ℕ) (le : at ≤ length p) (h : covers (take at
   pub rooted_leaf_high : PathGoesOn high at k → IsTrue (covers (onward high (take at p)) k)
   rooted_leaf_high on = way_covers high on
 
-module _ {V : Type 0} (at : ℕ) (b : Box (Entry V) Global) (p : _) where
-  pub same_at_end : drop at b.value.prefix ≡ [] → HasSameEntriesAt at (Leaf b) (Fork' p (Some b.value.value) Empty Empty)
+module _ {V : Type 0} (at : ℕ) (b : Box (TreeEntry V) Global) (p : _) where
+  pub same_at_end : drop at b.value.prefix ≡ [] → HasSameEntriesAt at (Leaf b) (Fork' p (Some b) Empty Empty)
   same_at_end ends = record { same = found }
     where
-      found : (q : List ℕ) → lookup at (Fork' p (Some b.value.value) Empty Empty) q ≡ lookup at (Leaf b) q
+      found : (q : List ℕ) → lookup at (Fork' p (Some b) Empty Empty) q ≡ lookup at (Leaf b) q
       found [] = rw ends
       found (e ∷ q) = rw ends (grind arith)
 
@@ -142,6 +148,6 @@ pub copied_where : {V : Type 0} (b : Bool) (v : V) (lent : Bor V) → lent.now �
     → option_copied (then_some b lent) ≡ cond b (Some v) None
 copied_where b v lent is = grind arith
 
-pub ruleset way_rules = (into_low, into_high, from_low, from_high, pruned_low, pruned_high)
+pub ruleset way_rules = (into_low, into_high, from_low, from_high, pruned_own, pruned_low, pruned_high)
 
 pub ruleset over_leaf_rules = (same_at_end, same_at_low, same_at_high, rooted_leaf_low, rooted_leaf_high, long)

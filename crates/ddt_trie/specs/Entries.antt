@@ -5,7 +5,7 @@ use Rattle.std.specs.FinMap.{FinMap, find, from_entries}
 use Rattle.ddt_path.specs.Covers.{covers, overlaps, is_strictly_below}
 use Rattle.ddt_trie.specs.PrefixMap.{path_cmp}
 
--- whether each entry has a key of its own: none stands twice
+-- whether each entry has a key of its own: no key occurs twice
 abbrev pub have_own_keys : {V : Type 0} → List (List ℕ × V) → Bool
 have_own_keys [] = true
 have_own_keys (e ∷ es) = not (is_some (find path_cmp e.0 es)) && have_own_keys es

@@ -1,6 +1,6 @@
--- A finite map from prefixes, each seen as its path, to values. A server keeps what its configuration holds in such
--- maps, and a resolver its cache. Both look for the longest prefix that covers an identifier (RFC 8111, sections 7.1
--- and 7.3).
+-- A finite map from prefixes, each seen as its path, to values. A server has the places of its authorities, children
+-- and sites in such maps, and a resolver has its cache. Both look for the longest prefix that covers an identifier (RFC
+-- 8111, sections 7.1 and 7.3).
 use Rattle.std.specs.Prelude.{ℕ, ◌≡◌, ◌≤◌, ◌⊎◌, Bool, true, false, IsTrue, List, length, filter, Option, None, Some}
 use Rattle.std.specs.declared.cmp.Ordering.{Ordering}
 use Rattle.std.specs.Ordering.{nat_cmp}
@@ -12,7 +12,7 @@ use Rattle.ddt_path.specs.Covers.{covers, is_strictly_below}
 abbrev pub path_cmp : List ℕ → List ℕ → Ordering
 path_cmp = slice_cmp nat_cmp
 
--- a map with so many entries takes no more
+-- the most entries of a map
 abbrev pub most_entries : ℕ
 most_entries = 1048576
 
@@ -40,6 +40,6 @@ abbrev pub IsKept : {V : Type 0} → (V → Bool → Type 0) → Option V → Op
 IsKept answers None after = after ≡ None
 IsKept answers (Some v) after = (answers v true × (after ≡ Some v)) ⊎ (answers v false × (after ≡ None))
 
--- what it leaves of a map
+-- what a filter by a test leaves of a map
 pub record IsRetained {V : Type 0} (answers : V → Bool → Type 0) (before after : FinMap path_cmp V) : Type 0 where
   pub at : (p : List ℕ) → IsKept answers (get before p) (get after p)

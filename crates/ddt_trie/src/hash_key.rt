@@ -1,61 +1,61 @@
-//! A prefix as the key of a hash table, and values that stand in two places.
+//! The key of a prefix in a hash table, and values that can be duplicated.
 
 ghost use Rattle.std.specs.Prelude.{◌≡◌};
 ghost use Rattle.std.specs.Cmp.{partial_equiv_from_equiv};
 ghost use Rattle.ddt_path.specs.Path.{path, IsForm};
 ghost use Rattle.ddt_path.specs.declared.form.Form.{Form as AForm};
-ghost use Rattle.ddt_trie.specs.HashKey.{is_same_key, key_writes, slot_of as slot_of_form};
+ghost use Rattle.ddt_trie.specs.HashKey.{is_same_key, key_writes, hash_key_of as slot_of_form};
 ghost use Rattle.ddt_trie.specs.HashKeyLaws.{keys_equal, keys_alike};
 
 use ddt_path::{Form, Locator, Prefix};
 use std::hash::{Hash, Hasher};
 
-/// A value that can be given twice.
-pub trait Twin: Drop {
-    /// The same value once more.
-    fn twin(&self) -> Self
+/// A value of which there can be two.
+pub trait Duplicate: Drop {
+    /// An equal value.
+    fn duplicate(&self) -> Self
         ensures { result ≡ self.now };
 }
 
-impl Twin for u32 {
-    fn twin(&self) -> u32 {
+impl Duplicate for u32 {
+    fn duplicate(&self) -> u32 {
         *self
     }
 }
 
-/// How many IPv4 addresses an instance has.
+/// The number of IPv4 addresses in an instance.
 const ONE_INSTANCE: u64 = 1 << 32;
 
-/// A block of IPv4 addresses as a key, in a quarter of the memory that its prefix takes.
+/// The key of a block of IPv4 addresses, in a quarter of the memory of its prefix.
 #[derive(Clone, Copy, PartialEq, Eq, Hash)]
 pub struct BlockKey {
-    /// The Instance ID, and behind it the address.
+    /// The Instance ID in the upper 32 bits, the address in the lower 32.
     pub number: u64,
-    /// How many digits of the address the block has.
+    /// The number of digits of the address that the block has, 0 to 32.
     pub len: u8,
 }
 
-/// A prefix as a key. Two are equal if and only if their paths are.
+/// The key of any other prefix. Two are equal if and only if the paths of their prefixes are equal.
 #[derive(Clone, Copy)]
-pub struct Key {
+pub struct PrefixKey {
     pub prefix: Prefix,
 }
 
-impl PartialEq for Key {
+impl PartialEq for PrefixKey {
     ghost eq = { is_same_key };
 
     ghost laws = { partial_equiv_from_equiv keys_equal };
 
-    fn eq(&self, other: &Key) -> bool {
+    fn eq(&self, other: &PrefixKey) -> bool {
         self.prefix == other.prefix
     }
 }
 
-impl Eq for Key {
+impl Eq for PrefixKey {
     ghost laws = { keys_equal };
 }
 
-impl Hash for Key {
+impl Hash for PrefixKey {
     ghost hash_input = { key_writes };
 
     ghost respects_eq = { keys_alike };
@@ -71,7 +71,7 @@ impl Hash for Key {
                 address: Locator::V4(address),
                 len,
             } => {
-                // The hasher takes eight bytes at once.
+                // One call, since a hasher takes eight bytes at once.
                 state.write_u64(u64::from(iid) * ONE_INSTANCE + u64::from(address));
                 state.write_u8(len);
             }
@@ -88,15 +88,15 @@ impl Hash for Key {
     }
 }
 
-/// The key of a prefix.
+/// The key of a prefix in a hash table.
 #[derive(Clone, Copy)]
-pub enum Slot {
+pub enum HashKey {
     Block(BlockKey),
-    Other(Key),
+    Other(PrefixKey),
 }
 
-/// The key of a prefix, by the form that it is written down as.
-pub fn slot_of(prefix: Prefix) -> Slot
+/// The key of a prefix. Equal prefixes have equal keys.
+pub fn hash_key_of(prefix: Prefix) -> HashKey
     ensures { (form : AForm) × IsForm form × (path form ≡ prefix) × (result ≡ slot_of_form form) }
 {
     match prefix.form() {
@@ -104,7 +104,7 @@ pub fn slot_of(prefix: Prefix) -> Slot
             iid,
             address: Locator::V4(address),
             len,
-        } => Slot::Block(BlockKey {
+        } => HashKey::Block(BlockKey {
             number: u64::from(iid) * ONE_INSTANCE + u64::from(address),
             len,
         }),
@@ -112,7 +112,7 @@ pub fn slot_of(prefix: Prefix) -> Slot
             iid: _iid,
             address: Locator::V6(_address),
             len: _len,
-        } => Slot::Other(Key { prefix }),
-        Form::Range { .. } => Slot::Other(Key { prefix }),
+        } => HashKey::Other(PrefixKey { prefix }),
+        Form::Range { .. } => HashKey::Other(PrefixKey { prefix }),
     }
 }

@@ -7,25 +7,25 @@ ghost use Rattle.ddt_trie.specs.PrefixMap.{path_cmp};
 ghost use Rattle.ddt_trie.specs.Trie.{trie_content};
 ghost use Rattle.ddt_trie.specs.HashTable.{IsTableOf};
 
-use crate::hash_key::Twin;
-use crate::hash_table::Table;
+use crate::hash_key::Duplicate;
+use crate::hash_table::PrefixTable;
 use crate::prefix_map::PrefixMap;
 use crate::trie_map::TrieMap;
 use ddt_path::{Prefix, Xeid};
 use std::alloc::Global;
 
-/// The form of a map from prefixes that is filled once and then asked often. Beside the tree stands a table, which
-/// finds the longest prefix. The table is given up, and the tree finds it, once an entry is removed, memory is refused
-/// to the table, or the prefixes have more than eight lengths.
+/// A map from prefixes that is filled once and then asked often: a tree, and a table that finds the longest prefix. The
+/// table is dropped, and the tree finds the longest prefix from then on, when an entry is removed, when the table gets
+/// no memory, or when the prefixes have more than eight lengths.
 #[derive(Drop)]
 pub struct HashedMap<V> {
     tree: TrieMap<V>,
-    table: Option<Table<V>>,
+    table: Option<PrefixTable<V>>,
     ghost same: { IfSome table (λ t. IsTableOf t (trie_content tree)) } by { Prim.hlevel props },
 }
 
-/// The table, where there is one, with the value of a prefix set, and none where it is given up.
-fn with<V: Drop>(table: Option<Table<V>>, prefix: Prefix, value: V) -> Option<Table<V>>
+/// The table, if there is one, with the value of a prefix set. None if the table is dropped.
+fn with<V: Drop>(table: Option<PrefixTable<V>>, prefix: Prefix, value: V) -> Option<PrefixTable<V>>
     ensures { (m : map.FinMap path_cmp V) → IfSome table (λ t. IsTableOf t m)
         → IfSome result (λ t. IsTableOf t (map.insert m prefix value)) }
 {
@@ -35,13 +35,13 @@ fn with<V: Drop>(table: Option<Table<V>>, prefix: Prefix, value: V) -> Option<Ta
     }
 }
 
-impl<V: Twin> PrefixMap<V> for HashedMap<V> {
+impl<V: Duplicate> PrefixMap<V> for HashedMap<V> {
     ghost content = { λ m. trie_content m.tree };
 
     fn empty(alloc: Global) -> HashedMap<V> {
         HashedMap {
             tree: TrieMap::empty(alloc),
-            table: Some(Table::new(alloc)),
+            table: Some(PrefixTable::new(alloc)),
         }
     }
 
@@ -69,9 +69,9 @@ impl<V: Twin> PrefixMap<V> for HashedMap<V> {
     }
 
     fn insert(&mut self, prefix: Prefix, value: V) -> Result<Option<V>, (Prefix, V)> {
-        let twin = value.twin();
+        let duplicate = value.duplicate();
         let before = self.tree.insert(prefix, value)?;
-        self.table = with(self.table.take(), prefix, twin);
+        self.table = with(self.table.take(), prefix, duplicate);
         Ok(before)
     }
 

@@ -1,5 +1,4 @@
-//! What holds of every map from prefixes, over the definitions alone: each law is the contract of a function that does
-//! nothing.
+//! Laws of every map from prefixes. Each law is the contract of a function that does nothing.
 
 ghost use Rattle.std.specs.Prelude.{◌≡◌, ℕ, List, filter, None, Some};
 ghost use Rattle.std.specs.List.{list_any};
@@ -9,15 +8,15 @@ ghost use Rattle.ddt_path.specs.Free.{free};
 ghost use Rattle.ddt_path.specs.Matching.{longest_match};
 ghost use Rattle.ddt_trie.specs.PrefixMap.{path_cmp, IsCovered, keys_below, IsLongest};
 
-/// What is free among the keys of a map is what is free among any list with the same members.
+/// The least specific hole among the keys of a map is the one among any list with the same members.
 pub fn free_by_members<V>()
     ensures { (m : map.FinMap path_cmp V) (members : List (List ℕ)) →
         ((p : List ℕ) → map.contains_key m p ≡ list_any (is_same_path p) members) →
         (authority x : List ℕ) → free authority (map.keys m) x ≡ free authority members x }
 {}
 
-/// What is free among the keys of a map strictly below a prefix is what is free among those of any list with the same
-/// members.
+/// The least specific hole among the keys of a map that are strictly below a prefix is the one among those of any list
+/// with the same members.
 pub fn free_below_by_members<V>()
     ensures { (m : map.FinMap path_cmp V) (members : List (List ℕ)) →
         ((p : List ℕ) → map.contains_key m p ≡ list_any (is_same_path p) members) → (authority x : List ℕ) →
@@ -35,7 +34,7 @@ pub fn longest_by_entries<V>()
         longest_match (λ e. e.0) entries x ≡ None }
 {}
 
-/// There is one longest key.
+/// At most one key is the longest that covers an identifier, and it has one value.
 pub fn one_longest<V>()
     ensures { (m : map.FinMap path_cmp V) (x p q : List ℕ) (v w : V) →
         IsLongest m x p v → IsLongest m x q w → (p ≡ q) × (v ≡ w) }

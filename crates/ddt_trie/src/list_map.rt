@@ -1,4 +1,4 @@
-//! A map from prefixes to values whose entries stand in one list. Each call looks at all of them.
+//! A map from prefixes to values with its entries in a list. Each call looks at all of them.
 
 ghost use Rattle.std.specs.Prelude.{◌≡◌, ◌==◌, IsTrue, not};
 ghost use Rattle.std.specs.List.{position, list_all};
@@ -12,14 +12,14 @@ use ddt_path::{Prefix, Xeid, longest_match};
 use std::alloc::Global;
 use std::mem;
 
-/// The plain form of a map from prefixes: its entries in the order in which they came.
+/// The simplest map from prefixes: a list of its entries, in the order in which they were inserted.
 #[derive(Drop)]
 pub struct ListMap<V> {
     entries: Vec<(Prefix, V)>,
     ghost distinct: { IsTrue (have_own_keys entries.items) },
 }
 
-/// The place of a prefix among the entries.
+/// The index of a prefix among the entries.
 fn place_of<V>(entries: &[(Prefix, V)], prefix: Prefix) -> Option<usize>
     ensures { result ≡ position (λ e. is_same_path e.0 prefix) entries.now }
 {
@@ -33,17 +33,17 @@ fn overlaps_none_of<V>(entries: &[(Prefix, V)], prefix: Prefix) -> bool
     entries.iter().all(|entry| !entry.0.overlaps(prefix))
 }
 
-/// Whether the prefix covers the identifier, which is whether the two overlap.
+/// Whether the prefix covers the identifier, which is the same as whether the two overlap.
 fn covers_alone(prefix: Prefix, x: Xeid) -> bool
     ensures covers { result ≡ covers prefix (xeid_path x) }
     ensures overlaps { result ≡ overlaps prefix (xeid_path x) }
 {
-    // The form tells the proof that no prefix goes on behind the path of an identifier.
+    // The form shows the proof that no prefix is longer than the path of an identifier.
     let _form = prefix.form();
     prefix.covers_xeid(x)
 }
 
-/// Whether no entry covers the identifier, which is whether it overlaps none of them.
+/// Whether no entry covers the identifier, which is the same as whether it overlaps none of them.
 fn covers_none<V>(entries: &[(Prefix, V)], x: Xeid) -> bool
     ensures covers { result ≡ none_covers entries.now (xeid_path x) }
     ensures overlaps { result ≡ list_all (λ e. not (overlaps e.0 (xeid_path x))) entries.now }
@@ -58,7 +58,7 @@ fn overlaps_none_below<V>(entries: &[(Prefix, V)], from: Prefix, prefix: Prefix)
     entries.iter().all(|entry| !(entry.0.is_strictly_below(from) && entry.0.overlaps(prefix)))
 }
 
-/// Whether no entry strictly below `from` covers the identifier, which is whether it overlaps none of them.
+/// Whether no entry strictly below `from` covers the identifier, which is the same as whether it overlaps none of them.
 fn covers_none_below<V>(entries: &[(Prefix, V)], from: Prefix, x: Xeid) -> bool
     ensures covers { result ≡ none_covers_below entries.now from (xeid_path x) }
     ensures overlaps { result ≡ none_overlaps_below entries.now from (xeid_path x) }

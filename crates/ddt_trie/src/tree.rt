@@ -1,6 +1,9 @@
-//! A binary tree of prefixes, with one level for each digit: 32 of the Instance ID, one of the address family, and up
-//! to 128 of the address. A prefix that is alone below a node is a leaf there, however much longer it is. Each call but
-//! `retain` goes down one path and no deeper, 162 nodes at most.
+//! A binary tree of prefixes: insertion, removal, the longest match, and the least specific hole.
+//!
+//! A level of the tree is a digit of a prefix: 32 digits of the Instance ID, one of the address family, and up to 128
+//! of the address. A prefix that is alone below a node is a leaf there, however much longer it is. An entry is
+//! allocated apart from its node, so that a node without one is small. Each call but `retain` goes down one path of 162
+//! nodes at most.
 
 ghost use Rattle.std.specs.Prelude.{true, false, not, None, Some, ◌≡◌, ◌≤◌, ◌+◌, length, take, drop, IsTrue, IsSome};
 ghost use Rattle.std.specs.Prelude.{IfOk, IfErr, IfSome, IfNone, ◌&&◌, ◌||◌, nat_le, nat_lt, is_some};
@@ -9,9 +12,9 @@ ghost use Rattle.std.specs.Fn.{FnReturnsAt};
 ghost use Rattle.ddt_path.specs.Path.{xeid_path};
 ghost use Rattle.ddt_path.specs.Covers.{covers};
 ghost use Rattle.ddt_trie.specs.Tree.{lookup, count, one_if, is_filled, is_held, is_leaf, is_pruned, is_pruned_below};
-ghost use Rattle.ddt_trie.specs.Tree.{is_rooted, IsRootedAs, IsPathTurn, IsSet, HasKept};
+ghost use Rattle.ddt_trie.specs.Tree.{value_in, is_rooted, IsRootedAs, IsPathBranch, IsSet, HasKept};
 ghost use Rattle.ddt_trie.specs.Tree.{HasSameEntries, HasSameEntriesAt};
-ghost use Rattle.ddt_trie.specs.Tree.{IsUncovered, IsLongestBelow, IsMet, IsGapBelow};
+ghost use Rattle.ddt_trie.specs.Tree.{IsUncovered, IsLongestBelow, IsMet, IsHoleBelow};
 ghost use Rattle.ddt_trie.specs.PrefixMap.{IsKept};
 ghost use Rattle.ddt_trie.specs.declared.tree.Tree.TheVariants.{Empty, Leaf};
 
@@ -19,85 +22,85 @@ use ddt_path::{Prefix, Xeid};
 use std::alloc::Global;
 use std::mem;
 
-/// The prefixes that begin alike: none, one alone, or those of a node.
+/// The prefixes that begin with the same digits: none, a single one, or those of a node.
 #[derive(Drop)]
 #[cycle(tree)]
 pub enum Tree<V> {
     Empty,
-    Leaf(Box<Entry<V>>),
+    Leaf(Box<TreeEntry<V>>),
     Fork(Box<Node<V>>),
 }
 
-/// A prefix that is alone among those that begin with the digits above it, and its value.
+/// A prefix and its value. The prefix of a leaf is the only one that begins with the digits above it.
 #[derive(Drop)]
-pub struct Entry<V> {
+pub struct TreeEntry<V> {
     prefix: Prefix,
     value: V,
 }
 
-/// One prefix, and those that go on behind it.
+/// A prefix, and the longer ones that begin with it.
 #[derive(Drop)]
 #[cycle(tree)]
 pub struct Node<V> {
-    /// The value of the prefix that ends here.
-    value: Option<V>,
+    /// The entry of the prefix that ends here.
+    entry: Option<Box<TreeEntry<V>>>,
     /// The prefixes whose next digit is 0, or whose family is IPv4.
     zero: Tree<V>,
     /// The prefixes whose next digit is 1, or whose family is IPv6.
     one: Tree<V>,
 }
 
-/// Where a prefix goes at a node.
-pub enum Turn {
-    /// It ends there.
+/// The branch that a prefix takes at a node.
+pub enum Branch {
+    /// None: the prefix ends at the node.
     End,
-    /// To the digit 0, or to IPv4.
+    /// The branch of the digit 0, or of IPv4.
     Zero,
-    /// To the digit 1, or to IPv6.
+    /// The branch of the digit 1, or of IPv6.
     One,
 }
 
-/// Where a prefix goes behind its first `at` digits, of which it has at least so many.
-pub fn turn_at(prefix: Prefix, at: u8) -> Turn
+/// The branch that a prefix takes after its first `at` digits; it has at least `at`.
+pub fn branch_at(prefix: Prefix, at: u8) -> Branch
     requires { at ≤ length prefix }
-    ensures { IsPathTurn at prefix result }
+    ensures { IsPathBranch at prefix result }
 {
     // A digit is 0 or 1, the family's 4 or 6, and no prefix has more than 161 of them.
     let _form = prefix.form();
     let _len = prefix.len();
     match prefix.digit(at) {
-        None => Turn::End,
-        Some(0 | 4) => Turn::Zero,
-        Some(_) => Turn::One,
+        None => Branch::End,
+        Some(0 | 4) => Branch::Zero,
+        Some(_) => Branch::One,
     }
 }
 
-/// Where the first `len` digits of an identifier's path go behind the first `at` of them.
-fn turn_of(x: Xeid, len: u8, at: u8) -> Turn
+/// The branch that the first `len` digits of an identifier take after the first `at` of them.
+fn branch_of_xeid(x: Xeid, len: u8, at: u8) -> Branch
     requires within { at ≤ len }
     requires fits { len ≤ length (xeid_path x) }
-    ensures { IsPathTurn at (take len (xeid_path x)) result }
+    ensures { IsPathBranch at (take len (xeid_path x)) result }
 {
     if at == len {
-        return Turn::End;
+        return Branch::End;
     }
     // A digit is 0 or 1, the family's 4 or 6.
     if x.digit(at) % 4 == 0 {
-        Turn::Zero
+        Branch::Zero
     } else {
-        Turn::One
+        Branch::One
     }
 }
 
-/// A node with this leaf below it, or with its value where its prefix ends there. The leaf's prefix and the other one
-/// share their first `at` digits. Where memory runs out, the leaf comes back.
+/// A node at depth `at` with this leaf below it, or as its own entry if the leaf's prefix ends there. The leaf's prefix
+/// and `prefix` share their first `at` digits. Returns the leaf if memory runs out.
 #[tactic(auto, using(crate::proofs::WayLemmas::over_leaf_rules))]
 fn node_over<V: Drop>(
     alloc: Global,
-    leaf: Box<Entry<V>>,
+    leaf: Box<TreeEntry<V>>,
     prefix: &Prefix,
     at: u8,
-) -> Result<Tree<V>, Box<Entry<V>>>
+) -> Result<Tree<V>, Box<TreeEntry<V>>>
     requires within { at ≤ length prefix.now }
     requires rooted { IsTrue (covers (take at prefix.now) leaf.value.prefix) }
     ensures same { IfOk result (λ tree. HasSameEntriesAt at (Leaf leaf) tree) }
@@ -110,7 +113,7 @@ fn node_over<V: Drop>(
     let mut node = match Box::new(
         alloc,
         Node {
-            value: None,
+            entry: None,
             zero: Tree::Empty,
             one: Tree::Empty,
         },
@@ -118,23 +121,105 @@ fn node_over<V: Drop>(
         Ok(node) => node,
         Err(_refused) => return Err(leaf),
     };
-    match turn_at(leaf.prefix, at) {
-        Turn::End => node.value = Some(Box::into_inner(leaf).value),
-        Turn::Zero => node.zero = Tree::Leaf(leaf),
-        Turn::One => node.one = Tree::Leaf(leaf),
+    match branch_at(leaf.prefix, at) {
+        Branch::End => node.entry = Some(leaf),
+        Branch::Zero => node.zero = Tree::Leaf(leaf),
+        Branch::One => node.one = Tree::Leaf(leaf),
     }
     Ok(Tree::Fork(node))
 }
 
+/// A new entry of this prefix with the value of `value`, which is None afterwards. Returns None if memory runs out;
+/// then `value` is unchanged.
+fn entry_of<V: Drop>(
+    alloc: Global,
+    prefix: Prefix,
+    value: &mut Option<V>,
+) -> Option<Box<TreeEntry<V>>>
+    requires given { IsTrue (is_some value.old) }
+    ensures key { IfSome result (λ entry. entry.value.prefix ≡ prefix) }
+    ensures set { IfSome result (λ entry. Some entry.value.value ≡ value.old) }
+    ensures taken { IfSome result (λ entry. value.new ≡ None) }
+    ensures back { IfNone result (value.new ≡ value.old) }
+{
+    let given = value.take()?;
+    match Box::new(
+        alloc,
+        TreeEntry {
+            prefix,
+            value: given,
+        },
+    ) {
+        Ok(entry) => Some(entry),
+        Err(refused) => {
+            *value = Some(refused.value.value);
+            None
+        }
+    }
+}
+
+/// Sets the value of a node's own entry to that of `value`, and `value` to the one before. Only a new entry is
+/// allocated: if memory runs out, the result is false and nothing is changed.
+fn set_entry<V: Drop>(
+    entry: &mut Option<Box<TreeEntry<V>>>,
+    alloc: Global,
+    prefix: Prefix,
+    value: &mut Option<V>,
+) -> bool
+    requires given { IsTrue (is_some value.old) }
+    ensures before { IsTrue result → value.new ≡ value_in entry.old }
+    ensures set { IsTrue result → value_in entry.new ≡ value.old }
+    ensures still { IsTrue (is_some entry.old) → IsTrue (is_some entry.new) }
+    ensures filled { IsTrue result → IsTrue (is_some entry.new) }
+    ensures back { result ≡ false → value.new ≡ value.old }
+    ensures unchanged { result ≡ false → entry.new ≡ entry.old }
+    ensures replaced { IsSome (value_in entry.old) → result ≡ true }
+{
+    match entry {
+        Some(held) => {
+            if let Some(given) = value {
+                mem::swap(&mut held.value, given);
+            }
+            true
+        }
+        None => match entry_of(alloc, prefix, value) {
+            Some(new) => {
+                *entry = Some(new);
+                true
+            }
+            None => false,
+        },
+    }
+}
+
+/// Removes an entry and returns its value.
+fn take_value<V: Drop>(entry: &mut Option<Box<TreeEntry<V>>>) -> Option<V>
+    ensures value { result ≡ value_in entry.old }
+    ensures none { entry.new ≡ None }
+{
+    let taken = entry.take()?;
+    Some(Box::into_inner(taken).value)
+}
+
 impl<V: Drop> Node<V> {
-    /// Whether its prefix, of `at` digits, has a value and at least `least` digits.
-    fn counts(&self, at: u8, least: u8) -> bool
-        ensures { result ≡ (nat_le least at && is_some self.now.value) }
+    /// The value of the node's own prefix.
+    fn value(&self) -> Option<&V>
+        ensures { option_copied result ≡ value_in self.now.entry }
     {
-        least <= at && self.value.is_some()
+        match &self.entry {
+            Some(entry) => Some(&entry.value),
+            None => None,
+        }
     }
 
-    /// Whether its prefix, of `at` digits, has fewer than `least`, and no prefix goes on behind it.
+    /// Whether the node's prefix, of `at` digits, has a value and at least `least` digits.
+    fn counts(&self, at: u8, least: u8) -> bool
+        ensures { result ≡ (nat_le least at && is_some self.now.entry) }
+    {
+        least <= at && self.entry.is_some()
+    }
+
+    /// Whether the node's prefix, of `at` digits, has fewer than `least`, and there is no longer prefix below it.
     fn ends_short(&self, at: u8, least: u8) -> bool
         ensures { result ≡ (nat_lt at least && not (is_filled self.now.zero || is_filled self.now.one)) }
     {
@@ -143,14 +228,14 @@ impl<V: Drop> Node<V> {
 }
 
 impl<V: Drop> Tree<V> {
-    /// Whether it has no entry: each node has one, or one below it.
+    /// Whether the tree has no entry: each node has one, or has one below it.
     fn is_empty(&self) -> bool
         ensures { result ≡ not (is_filled self.now) }
     {
         matches!(self, Tree::Empty)
     }
 
-    /// The value of a prefix, by what is left of it behind its first `at` digits.
+    /// The value of a prefix, found by its digits after the first `at`.
     pub fn get(&self, prefix: Prefix, at: u8) -> Option<&V>
         requires within { at ≤ length prefix }
         requires rooted { IsTrue (is_rooted (take at prefix) self.now) }
@@ -159,17 +244,17 @@ impl<V: Drop> Tree<V> {
         match self {
             Tree::Empty => None,
             Tree::Leaf(leaf) => (leaf.prefix == prefix).then_some(&leaf.value),
-            Tree::Fork(node) => match turn_at(prefix, at) {
-                Turn::End => node.value.as_ref(),
-                Turn::Zero => node.zero.get(prefix, at + 1),
-                Turn::One => node.one.get(prefix, at + 1),
+            Tree::Fork(node) => match branch_at(prefix, at) {
+                Branch::End => node.value(),
+                Branch::Zero => node.zero.get(prefix, at + 1),
+                Branch::One => node.one.get(prefix, at + 1),
             },
         }
     }
 
-    /// Sets the value of a prefix to what `value` holds, which then holds the one before. A leaf of another prefix goes
-    /// down until the two part. Where memory runs out, it answers false, and the entries and `value` stay as they are.
-    /// Each level's last step is the next level, so that it is compiled as a loop.
+    /// Sets the value of a prefix to that of `value`, and `value` to the one before. A leaf of another prefix moves
+    /// down to where the two prefixes differ. If memory runs out, the result is false, and the entries and `value` are
+    /// unchanged. The recursive call is the last step, so that it is compiled as a loop.
     #[tactic(auto, using(crate::proofs::WayLemmas::way_rules))]
     pub fn insert(&mut self, alloc: Global, prefix: &Prefix, at: u8, value: &mut Option<V>) -> bool
         requires within { at ≤ length prefix.now }
@@ -186,29 +271,26 @@ impl<V: Drop> Tree<V> {
         ensures unchanged { result ≡ false → HasSameEntriesAt at self.old self.new }
         ensures replaced { IsSome (lookup at self.old (drop at prefix.now)) → result ≡ true }
     {
-        if !self.part_from(alloc, prefix, at) {
+        if !self.split_leaf(alloc, prefix, at) {
             return false;
         }
         match self {
-            Tree::Empty => self.grow(alloc, *prefix, at, value),
+            Tree::Empty => self.insert_into_empty(alloc, *prefix, at, value),
             Tree::Leaf(leaf) => {
                 if let Some(given) = value {
                     mem::swap(&mut leaf.value, given);
                 }
                 true
             }
-            Tree::Fork(node) => match turn_at(*prefix, at) {
-                Turn::End => {
-                    mem::swap(&mut node.value, value);
-                    true
-                }
-                Turn::Zero => node.zero.insert(alloc, prefix, at + 1, value),
-                Turn::One => node.one.insert(alloc, prefix, at + 1, value),
+            Tree::Fork(node) => match branch_at(*prefix, at) {
+                Branch::End => set_entry(&mut node.entry, alloc, *prefix, value),
+                Branch::Zero => node.zero.insert(alloc, prefix, at + 1, value),
+                Branch::One => node.one.insert(alloc, prefix, at + 1, value),
             },
         }
     }
 
-    /// Whether it is a leaf of another prefix, with which this one shares its first `at` digits.
+    /// Whether the tree is a leaf of another prefix. That prefix and this one share their first `at` digits.
     fn is_other_leaf(&self, prefix: Prefix, at: u8) -> bool
         requires within { at ≤ length prefix }
         requires rooted { IsTrue (is_rooted (take at prefix) self.now) }
@@ -221,9 +303,10 @@ impl<V: Drop> Tree<V> {
         }
     }
 
-    /// Puts a node in the place of a leaf of another prefix, and that leaf below it, or its value into the node where
-    /// its prefix ends. Where memory runs out, it answers false, and the tree stays as it is.
-    fn part_from(&mut self, alloc: Global, prefix: &Prefix, at: u8) -> bool
+    /// Replaces a leaf of another prefix by a node that has this leaf below it, or as its own entry if the leaf's
+    /// prefix ends there. Any other tree is unchanged. If memory runs out, the result is false and the tree is
+    /// unchanged.
+    fn split_leaf(&mut self, alloc: Global, prefix: &Prefix, at: u8) -> bool
         requires within { at ≤ length prefix.now }
         requires pruned { IsTrue (is_pruned self.old) }
         requires rooted { IsTrue (is_rooted (take at prefix.now) self.old) }
@@ -252,9 +335,15 @@ impl<V: Drop> Tree<V> {
         }
     }
 
-    /// The same as `insert` for a tree without entries.
+    /// `insert` for a tree without entries.
     #[tactic(auto, using(ddt_path::specs::laws::Cover::front_covered))]
-    fn grow(&mut self, alloc: Global, prefix: Prefix, at: u8, value: &mut Option<V>) -> bool
+    fn insert_into_empty(
+        &mut self,
+        alloc: Global,
+        prefix: Prefix,
+        at: u8,
+        value: &mut Option<V>,
+    ) -> bool
         requires within { at ≤ length prefix }
         requires empty { self.old ≡ Empty }
         requires given { IsTrue (is_some value.old) }
@@ -266,28 +355,14 @@ impl<V: Drop> Tree<V> {
         ensures back { result ≡ false → value.new ≡ value.old }
         ensures unchanged { result ≡ false → self.new ≡ self.old }
     {
-        let Some(given) = value.take() else {
+        let Some(leaf) = entry_of(alloc, prefix, value) else {
             return false;
         };
-        match Box::new(
-            alloc,
-            Entry {
-                prefix,
-                value: given,
-            },
-        ) {
-            Ok(leaf) => {
-                *self = Tree::Leaf(leaf);
-                true
-            }
-            Err(refused) => {
-                *value = Some(refused.value.value);
-                false
-            }
-        }
+        *self = Tree::Leaf(leaf);
+        true
     }
 
-    /// Whether it has no node, or one with neither a value nor a child.
+    /// Whether the tree is empty, or a node with neither an entry nor a child.
     fn is_vacant(&self) -> bool
         ensures { result ≡ not (is_held self.now) }
     {
@@ -295,12 +370,12 @@ impl<V: Drop> Tree<V> {
             Tree::Empty => true,
             Tree::Leaf(_) => false,
             Tree::Fork(node) => {
-                node.value.is_none() && node.zero.is_empty() && node.one.is_empty()
+                node.entry.is_none() && node.zero.is_empty() && node.one.is_empty()
             }
         }
     }
 
-    /// Cuts a node that has neither a value nor a child.
+    /// Removes a node that has neither an entry nor a child.
     fn prune(&mut self)
         requires { IsTrue (is_pruned_below self.old) }
         ensures same { HasSameEntries self.old self.new }
@@ -313,7 +388,7 @@ impl<V: Drop> Tree<V> {
         }
     }
 
-    /// Removes a prefix and answers its value. On the way back each node that became empty is cut.
+    /// Removes a prefix and returns its value. Each node that is then empty is removed on the way back.
     #[tactic(auto, using(crate::proofs::WayLemmas::way_rules))]
     pub fn remove(&mut self, prefix: Prefix, at: u8) -> Option<V>
         requires within { at ≤ length prefix }
@@ -327,17 +402,17 @@ impl<V: Drop> Tree<V> {
         let before = match self {
             Tree::Empty => None,
             Tree::Leaf(_) => self.remove_leaf(prefix, at),
-            Tree::Fork(node) => match turn_at(prefix, at) {
-                Turn::End => node.value.take(),
-                Turn::Zero => node.zero.remove(prefix, at + 1),
-                Turn::One => node.one.remove(prefix, at + 1),
+            Tree::Fork(node) => match branch_at(prefix, at) {
+                Branch::End => take_value(&mut node.entry),
+                Branch::Zero => node.zero.remove(prefix, at + 1),
+                Branch::One => node.one.remove(prefix, at + 1),
             },
         };
         self.prune();
         before
     }
 
-    /// The same for a leaf.
+    /// `remove` for a leaf.
     fn remove_leaf(&mut self, prefix: Prefix, at: u8) -> Option<V>
         requires within { at ≤ length prefix }
         requires leaf { IsTrue (is_leaf self.old) }
@@ -356,8 +431,8 @@ impl<V: Drop> Tree<V> {
         }
     }
 
-    /// Keeps the entries for whose value `keep` answers true, and cuts each node that became empty. Of `len` entries,
-    /// of which those of this tree are a part, it answers how many are left.
+    /// Keeps the entries for whose value `keep` returns true, and removes each node that is then empty. The entries of
+    /// this tree are among `len` entries in all; the result is how many of those are left.
     pub fn retain<F: Fn(&V) -> bool>(&mut self, keep: &F, len: usize) -> usize
         requires callable { F.IsAlwaysCallable keep.now }
         requires pruned { IsTrue (is_pruned self.old) }
@@ -373,14 +448,14 @@ impl<V: Drop> Tree<V> {
             Tree::Fork(node) => {
                 let left = node.zero.retain(keep, len);
                 let left = node.one.retain(keep, left);
-                retain_value(&mut node.value, keep, left)
+                retain_entry(&mut node.entry, keep, left)
             }
         };
         self.prune();
         left
     }
 
-    /// The same for a leaf.
+    /// `retain` for a leaf.
     fn retain_leaf<F: Fn(&V) -> bool>(&mut self, keep: &F, total: usize) -> usize
         requires callable { F.IsAlwaysCallable keep.now }
         requires leaf { IsTrue (is_leaf self.old) }
@@ -401,8 +476,8 @@ impl<V: Drop> Tree<V> {
         total - 1
     }
 
-    /// Of the fronts of a prefix that have at least `at` digits, the longest that has a value: its length, and the
-    /// value.
+    /// The longest match: of the prefixes with a value that cover `prefix` and have at least `at` digits, the length
+    /// and the value of the longest. None if there is none.
     pub fn longest(&self, prefix: Prefix, at: u8) -> Option<(u8, &V)>
         requires within { at ≤ length prefix }
         requires rooted { IsTrue (is_rooted (take at prefix) self.now) }
@@ -415,13 +490,13 @@ impl<V: Drop> Tree<V> {
         let mut depth = at;
         let mut best = None;
         while let Tree::Fork(node) = tree {
-            if let Some(value) = &node.value {
-                best = Some((depth, value));
+            if let Some(entry) = &node.entry {
+                best = Some((depth, &entry.value));
             }
-            match turn_of(x, len, depth) {
-                Turn::End => return best,
-                Turn::Zero => tree = &node.zero,
-                Turn::One => tree = &node.one,
+            match branch_of_xeid(x, len, depth) {
+                Branch::End => return best,
+                Branch::Zero => tree = &node.zero,
+                Branch::One => tree = &node.one,
             }
             depth += 1;
         }
@@ -434,16 +509,17 @@ impl<V: Drop> Tree<V> {
         Some((leaf.prefix.len(), &leaf.value))
     }
 
-    /// The length of a front of the prefix, of at least `at` digits, that overlaps no entry of at least `least` digits;
-    /// each shorter front of `least - 1` digits or more overlaps one. None where the whole prefix overlaps one. `least`
-    /// is at most one more than the length of the prefix.
+    /// The length of the least specific hole around `prefix` (RFC 8111, section 7.1.2). The hole is made of the first
+    /// digits of `prefix`, at least `at` of them, and overlaps no entry of at least `least` digits. Each shorter one of
+    /// `least - 1` digits or more overlaps such an entry. None if `prefix` itself overlaps one. `least` is at most one
+    /// more than the length of `prefix`.
     #[tactic(auto, using(crate::proofs::WayLemmas::way_rules))]
-    pub fn gap(&self, prefix: Prefix, at: u8, least: u8) -> Option<u8>
+    pub fn least_specific_hole(&self, prefix: Prefix, at: u8, least: u8) -> Option<u8>
         requires within { at ≤ length prefix }
         requires near { least ≤ length prefix + 1 }
         requires pruned { IsTrue (is_pruned self.now) }
         requires rooted { IsTrue (is_rooted (take at prefix) self.now) }
-        ensures found { IfSome result (λ len. IsGapBelow at self.now (drop at prefix) least len) }
+        ensures found { IfSome result (λ len. IsHoleBelow at self.now (drop at prefix) least len) }
         ensures none { IfNone result (IsMet at self.now (drop at prefix) least) }
     {
         match self {
@@ -464,30 +540,34 @@ impl<V: Drop> Tree<V> {
                 if node.counts(at, least) {
                     return None;
                 }
-                match turn_at(prefix, at) {
-                    Turn::End => None,
-                    Turn::Zero => node.zero.gap(prefix, at + 1, least),
-                    Turn::One => node.one.gap(prefix, at + 1, least),
+                match branch_at(prefix, at) {
+                    Branch::End => None,
+                    Branch::Zero => node.zero.least_specific_hole(prefix, at + 1, least),
+                    Branch::One => node.one.least_specific_hole(prefix, at + 1, least),
                 }
             }
         }
     }
 }
 
-/// Drops a value for which `keep` answers false, and answers how many are left of `len`.
-fn retain_value<V: Drop, F: Fn(&V) -> bool>(value: &mut Option<V>, keep: &F, len: usize) -> usize
+/// Drops an entry for whose value `keep` returns false, and returns how many of `len` entries are left.
+fn retain_entry<V: Drop, F: Fn(&V) -> bool>(
+    entry: &mut Option<Box<TreeEntry<V>>>,
+    keep: &F,
+    len: usize,
+) -> usize
     requires callable { F.IsAlwaysCallable keep.now }
-    requires counted { one_if value.old ≤ len }
-    ensures kept { IsKept (FnReturnsAt F.Fn keep.now) value.old value.new }
-    ensures counted { result + one_if value.old ≡ len + one_if value.new }
+    requires counted { one_if entry.old ≤ len }
+    ensures kept { IsKept (FnReturnsAt F.Fn keep.now) (value_in entry.old) (value_in entry.new) }
+    ensures counted { result + one_if entry.old ≡ len + one_if entry.new }
 {
-    let is_kept = match value {
-        Some(kept) => keep(kept),
+    let is_kept = match &*entry {
+        Some(kept) => keep(&kept.value),
         None => return len,
     };
     if is_kept {
         return len;
     }
-    *value = None;
+    *entry = None;
     len - 1
 }

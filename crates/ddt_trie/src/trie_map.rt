@@ -1,5 +1,5 @@
-//! A map from prefixes to values whose entries stand in a binary tree, one level for each digit. Each call but `retain`
-//! goes down one path.
+//! A map from prefixes to values with its entries in a binary tree, one level for each digit. Each call but `retain`
+//! goes down one path. `free` and `free_below` find the least specific hole.
 
 ghost use Rattle.std.specs.Prelude.{◌≡◌, IsTrue, []};
 ghost use Rattle.ddt_trie.specs.Tree.{content_of, count, is_pruned, is_rooted, HasPaths};
@@ -9,9 +9,9 @@ use crate::tree::Tree;
 use ddt_path::{Prefix, Xeid};
 use std::alloc::Global;
 
-/// The form of a map from prefixes for many entries, which stand in a binary tree. Each node has an entry or one below
-/// it, each leaf's prefix begins with the digits above it, the entries are counted, and each is the path of a prefix,
-/// so that no path is longer than 161 digits.
+/// A map from prefixes for many entries, in a binary tree. Each node has an entry or has one below it; the prefix of a
+/// leaf begins with the digits above it; `len` is the number of entries. Each key is the path of a prefix, so no path
+/// is longer than 161 digits.
 #[derive(Drop)]
 pub struct TrieMap<V> {
     root: Tree<V>,
@@ -28,7 +28,7 @@ impl<V: Drop> TrieMap<V> {
     ghost use Rattle.ddt_trie.specs.PrefixMap.{IsCovered, IsLongest};
     ghost use Rattle.ddt_trie.specs.Trie.{trie_content};
 
-    /// Of its prefixes that cover this one, itself among them, the longest, with its value; None where none covers it.
+    /// The longest prefix of the map that covers this one or is equal to it, with its value. None if there is none.
     pub fn longest_over(&self, prefix: Prefix) -> Option<(Prefix, &V)>
         ensures longest { IfSome result (λ found. IsLongest (trie_content self.now) prefix found.0 found.1.now) }
         ensures covered { IsCovered (trie_content self.now) prefix → IsSome result }
@@ -68,12 +68,14 @@ impl<V: Drop> PrefixMap<V> for TrieMap<V> {
     }
 
     fn free(&self, from: Prefix, x: Xeid) -> Option<Prefix> {
-        let len = self.root.gap(Prefix::host(x), 0, 0)?;
+        let len = self.root.least_specific_hole(Prefix::host(x), 0, 0)?;
         Some(Prefix::cut(x, len.max(from.len())))
     }
 
     fn free_below(&self, from: Prefix, x: Xeid) -> Option<Prefix> {
-        let len = self.root.gap(Prefix::host(x), 0, from.len() + 1)?;
+        let len = self
+            .root
+            .least_specific_hole(Prefix::host(x), 0, from.len() + 1)?;
         Some(Prefix::cut(x, len.max(from.len())))
     }
 

@@ -1,8 +1,8 @@
 //! What is wrong with a configuration or with settings, in words.
 
+use ddt_config::digest::{Key as SealKey, SealFault};
+use ddt_config::settings::{Key as SettingsKey, SettingsFault};
 use ddt_config::{ConfigFault, Key};
-use ddt_digest::{Key as SealKey, SealFault};
-use ddt_settings::{Key as SettingsKey, SettingsFault};
 use ddt_text::{parse_locator, parse_prefix};
 use std::alloc::{AllocError, Global};
 use std::str;

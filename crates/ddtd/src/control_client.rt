@@ -1,56 +1,56 @@
-//! `ddtd tell SOCKET WORD [ARGUMENT]`: tells a running daemon what to do.
+//! `ddtd tell SOCKET WORD [ARGUMENT]`: sends a command to a running daemon.
 
-use crate::end::End;
+use crate::command_line::TellArgs;
+use crate::exit_status::ExitStatus;
 use crate::log::{Log, Priority};
 use crate::printable::printable_lines;
-use crate::statistics_form::{Form, formed};
-use crate::words::TellAsked;
+use crate::statistics_format::{Form, formed};
 use ddt_daemon::ControlWord;
 use std::io::{Read, Write};
 use std::os::unix::net::UnixStream;
 use std::time::Duration;
 use std::{io, str};
 
-/// How long an answer is waited for, in seconds.
-const PATIENCE: u64 = 60;
+/// The longest wait for an answer, in seconds.
+const REPLY_TIMEOUT_SECONDS: u64 = 60;
 
-/// Tells a daemon a word, and prints what it answers.
-pub fn tell(rt: &HostRuntime, asked: &TellAsked<'_>, log: &mut Log) -> End {
-    if let Some(why) = fault_of(asked) {
+/// Sends a daemon a command, and prints the answer.
+pub fn tell(rt: &HostRuntime, args: &TellArgs<'_>, log: &mut Log) -> ExitStatus {
+    if let Some(why) = fault_of(args) {
         log.refuse(rt, why);
-        return End::Refused;
+        return ExitStatus::Refused;
     }
-    match ask(rt, asked) {
-        Ok(answer) => print_answer(rt, &answer, asked, log),
+    match ask(rt, args) {
+        Ok(answer) => print_answer(rt, &answer, args, log),
         Err(error) => {
-            let socket = asked.socket;
+            let socket = args.socket;
             log.say(
                 rt,
                 Priority::Error,
                 format!(in rt.alloc(); "{socket}: {error}"),
             );
-            End::Refused
+            ExitStatus::Refused
         }
     }
 }
 
-/// Why a daemon isn't asked this, if so.
-fn fault_of(asked: &TellAsked<'_>) -> Option<&'static str> {
-    if asked.argument == Some("") {
+/// The reason why a daemon can't be asked this; None where it can.
+fn fault_of(args: &TellArgs<'_>) -> Option<&'static str> {
+    if args.argument == Some("") {
         return Some("the prefix or the identifier is empty");
     }
-    if asked.form != Form::Lines && asked.word != ControlWord::Stats {
+    if args.form != Form::Lines && args.word != ControlWord::Stats {
         return Some("only stats has another form than lines");
     }
     None
 }
 
-/// What the daemon answers.
-fn ask(rt: &HostRuntime, asked: &TellAsked<'_>) -> io::Result<Vec<u8>> {
-    let mut stream = UnixStream::connect(rt, asked.socket)?;
-    stream.set_read_timeout(Some(Duration::from_secs(PATIENCE)))?;
-    stream.write_all(asked.word.text().as_bytes())?;
-    if let Some(argument) = asked.argument {
+/// Sends the command and reads the whole answer.
+fn ask(rt: &HostRuntime, args: &TellArgs<'_>) -> io::Result<Vec<u8>> {
+    let mut stream = UnixStream::connect(rt, args.socket)?;
+    stream.set_read_timeout(Some(Duration::from_secs(REPLY_TIMEOUT_SECONDS)))?;
+    stream.write_all(args.word.text().as_bytes())?;
+    if let Some(argument) = args.argument {
         stream.write_all(b" ")?;
         stream.write_all(argument.as_bytes())?;
     }
@@ -60,31 +60,31 @@ fn ask(rt: &HostRuntime, asked: &TellAsked<'_>) -> io::Result<Vec<u8>> {
     Ok(answer)
 }
 
-/// Prints an answer, its control characters escaped. One that begins with `refused` is a refusal. So is one that is no
-/// text, and one that was cut, which the log says.
-fn print_answer(rt: &HostRuntime, answer: &[u8], asked: &TellAsked<'_>, log: &mut Log) -> End {
+/// Prints an answer with its control characters escaped. It is a refusal if it begins with `refused`, isn't UTF-8, or
+/// was cut; the log has the last.
+fn print_answer(rt: &HostRuntime, answer: &[u8], args: &TellArgs<'_>, log: &mut Log) -> ExitStatus {
     let Ok(text) = str::from_utf8(answer) else {
-        return End::Refused;
+        return ExitStatus::Refused;
     };
     let Ok(text) = printable_lines(rt.alloc(), text) else {
-        return End::Refused;
+        return ExitStatus::Refused;
     };
-    if !is_whole(asked.word, &text) {
+    if !is_whole(args.word, &text) {
         log.refuse(rt, "the answer was cut");
     }
-    let is_answer = is_whole(asked.word, &text) && !text.starts_with("refused");
-    let form = if is_answer { asked.form } else { Form::Lines };
+    let is_answer = is_whole(args.word, &text) && !text.starts_with("refused");
+    let form = if is_answer { args.form } else { Form::Lines };
     let Ok(text) = formed(rt.alloc(), &text, form) else {
-        return End::Refused;
+        return ExitStatus::Refused;
     };
     if rt.stdout().write_all(text.as_bytes()).is_err() || !is_answer {
-        End::Refused
+        ExitStatus::Refused
     } else {
-        End::Answered
+        ExitStatus::Answered
     }
 }
 
-/// Whether an answer has its last line: that of a table is how many lines it has.
+/// Whether an answer has its last line; that of a table is the number of its entries.
 fn is_whole(word: ControlWord, text: &str) -> bool {
     let last = text.lines().last().unwrap_or("");
     if text.starts_with("refused") {

@@ -1,83 +1,87 @@
-//! The daemon, in either role: it waits for what comes, has its role do a round, and does what it is told.
+//! The main loop of the daemon in either role: wait for datagrams, run a round of the role, run a control command.
 
-use crate::control::{Control, Told};
-use crate::end::End;
+use crate::control_socket::{Control, ControlRequest};
+use crate::exit_status::ExitStatus;
+use crate::input_file::Message;
 use crate::log::{Log, Priority};
-use crate::notify::{State, notify};
 use crate::poll::Poll;
-use crate::printable::printable;
-use crate::source::Why;
-use crate::times::{rest, seconds};
-use ddt_daemon::{ControlWord, DaemonStatistics, Times};
+use crate::system_clock::{pause, seconds};
+use crate::systemd_notify::{State, notify};
+use ddt_daemon::{DaemonStatistics, Times};
 
-/// What a daemon is: a server, or a Map-Resolver.
+/// The role of a daemon: a server (DDT node or Map-Server) or a Map-Resolver.
 pub trait Role: Drop {
-    /// Has all that may come to it waited for.
+    /// Adds the role's sockets to those that the poll waits for.
     fn add_to(&self, poll: &mut Poll);
 
-    /// How long is waited at most for what may come, in milliseconds.
-    fn patience(&mut self, rt: &HostRuntime) -> i32;
+    /// The longest wait for a datagram, in milliseconds.
+    fn poll_timeout_ms(&mut self, rt: &HostRuntime) -> i32;
 
-    /// Does what there is to do, after something came or nothing did; whether its file is to be taken up.
+    /// Runs one round after a wait. Returns whether a watched file has changed, so that the files are to be reloaded.
     fn round(&mut self, rt: &HostRuntime, poll: &Poll, log: &mut Log) -> bool;
 
-    /// Takes up its file anew. Where it can't, all stays as it was, and it says why.
-    fn take_up(&mut self, rt: &HostRuntime, log: &mut Log) -> Result<(), Why>;
+    /// Reads its files again and adopts them. If they are refused, all stays as it is, and the message has the reason.
+    fn reload(&mut self, rt: &HostRuntime, log: &mut Log) -> Result<(), Message>;
 
-    /// What is in force from now on, in words for the log.
-    fn says(&self, rt: &HostRuntime) -> Why;
+    /// What is in force, in words for the log.
+    fn status_text(&self, rt: &HostRuntime) -> Message;
 
-    /// Does what is left to do once that is in the log, and says there what else there is to say.
-    fn settle(&mut self, rt: &HostRuntime, log: &mut Log);
+    /// Logs what is suspect in what is in force, after the log has its status.
+    fn log_warnings(&mut self, rt: &HostRuntime, log: &mut Log);
 
-    /// What its file is called.
-    fn file(&self) -> &'static str;
+    /// The word for its file: `configuration` or `settings`.
+    fn source_name(&self) -> &'static str;
 
-    /// What it has counted.
-    fn statistics(&self, rt: &HostRuntime, daemon: DaemonStatistics) -> Why;
+    /// Its counts, a line `name=value` each.
+    fn statistics(&self, rt: &HostRuntime, daemon: DaemonStatistics) -> Message;
 
-    /// What it answers to any other word.
-    fn answer(&mut self, rt: &HostRuntime, told: &Told, log: &mut Log) -> Why;
+    /// Runs a control command that only one role has, and returns the answer.
+    fn answer(&mut self, rt: &HostRuntime, request: &ControlRequest, log: &mut Log) -> Message;
 }
 
-/// A role that runs.
+/// A running role.
 #[derive(Drop)]
-struct Daemon<R: Role> {
-    role: R,
-    control: Control,
-    poll: Poll,
-    times: Times,
-    refused: u64,
+pub struct Daemon<R: Role> {
+    pub role: R,
+    pub control: Control,
+    pub poll: Poll,
+    pub times: Times,
+    /// The number of reloads that were refused.
+    pub refused: u64,
 }
 
-/// Runs a role until it is told to stop, or says why there is none to run.
+/// Runs a role until the command `stop`. If the role couldn't start, logs the reason.
 pub fn run<R: Role>(
     rt: &HostRuntime,
-    role: Result<R, Why>,
+    role: Result<R, Message>,
     path: Option<&str>,
     log: &mut Log,
-) -> End {
+) -> ExitStatus {
     match Daemon::start(rt, role, path) {
         Ok(mut daemon) => {
-            daemon.say(rt, "ready", log);
+            daemon.log_status(rt, "ready", log);
             notify(rt, State::Ready);
             daemon.run(rt, log);
             notify(rt, State::Stopping);
             daemon.control.finish(rt);
             daemon.control.remove_file(rt, path);
             log.say(rt, Priority::Notice, format!(in rt.alloc(); "stopped"));
-            End::Answered
+            ExitStatus::Answered
         }
         Err(why) => {
             log.say(rt, Priority::Error, why);
-            End::Refused
+            ExitStatus::Refused
         }
     }
 }
 
 impl<R: Role> Daemon<R> {
-    /// The role, at its control socket.
-    fn start(rt: &HostRuntime, role: Result<R, Why>, path: Option<&str>) -> Result<Daemon<R>, Why> {
+    /// Opens the control socket at `path`, if one is given.
+    fn start(
+        rt: &HostRuntime,
+        role: Result<R, Message>,
+        path: Option<&str>,
+    ) -> Result<Daemon<R>, Message> {
         let role = role?;
         let control = Control::open(rt, path)?;
         let now = seconds(rt);
@@ -93,101 +97,33 @@ impl<R: Role> Daemon<R> {
         })
     }
 
-    /// Runs until it is told to stop.
+    /// Runs rounds until the command `stop`.
     fn run(&mut self, rt: &HostRuntime, log: &mut Log) {
         for _round in 0..u64::MAX {
             self.poll.clear();
             self.role.add_to(&mut self.poll);
             let first = self.poll.len();
             self.control.add_to(&mut self.poll, seconds(rt));
-            let patience = self.role.patience(rt);
-            if !self.poll.wait(patience) {
-                rest(rt);
+            let poll_timeout_ms = self.role.poll_timeout_ms(rt);
+            if !self.poll.wait(poll_timeout_ms) {
+                pause(rt);
             }
             if self.role.round(rt, &self.poll, log) {
                 let _answer = self.reload(rt, log);
             }
-            if self.obey(rt, first, log) {
+            if self.handle_control(rt, first, log) {
                 return;
             }
         }
     }
 
-    /// Does what it is told at the control socket; whether it is to stop.
-    fn obey(&mut self, rt: &HostRuntime, first: usize, log: &mut Log) -> bool {
-        let Some(told) = self.control.take(&self.poll, first, seconds(rt)) else {
-            return false;
-        };
-        let is_stop = told.word == Some(ControlWord::Stop) && told.argument.is_empty();
-        let answer = self.answer(rt, &told, log);
-        self.control.answer(told, answer);
-        is_stop
-    }
-
-    fn answer(&mut self, rt: &HostRuntime, told: &Told, log: &mut Log) -> Why {
-        match told.word {
-            Some(ControlWord::Stats | ControlWord::Reload | ControlWord::Sites | ControlWord::Stop)
-                if !told.argument.is_empty() => {
-                format!(in rt.alloc(); "refused: the word takes nothing after it\n")
-            }
-            Some(ControlWord::Stats) => self.statistics(rt, log),
-            Some(ControlWord::Reload) => self.reload(rt, log),
-            Some(ControlWord::Stop) => format!(in rt.alloc(); "stopping\n"),
-            Some(_) => self.role.answer(rt, told, log),
-            None => format!(in rt.alloc(); "refused: no such word\n"),
-        }
-    }
-
-    fn statistics(&self, rt: &HostRuntime, log: &Log) -> Why {
-        let daemon = DaemonStatistics {
-            times: self.times,
-            refused: self.refused,
-            unlogged: log.lost(),
-        };
-        self.role.statistics(rt, daemon)
-    }
-
-    /// Takes up its file, or goes on as it was and says why.
-    fn reload(&mut self, rt: &HostRuntime, log: &mut Log) -> Why {
-        notify(rt, State::Reloading);
-        let taken = self.role.take_up(rt, log);
-        let answer = match taken {
-            Ok(()) => {
-                self.times.reload = seconds(rt);
-                self.say(rt, "reloaded", log);
-                format!(in rt.alloc(); "reloaded\n")
-            }
-            Err(why) => self.refuse(rt, why, log),
-        };
-        notify(rt, State::Ready);
-        answer
-    }
-
-    fn refuse(&mut self, rt: &HostRuntime, why: Why, log: &mut Log) -> Why {
-        self.refused = self.refused.saturating_add(1);
-        let why = printable(rt.alloc(), &why?)?;
-        let file = self.role.file();
-        let line = format!(in rt.alloc(); "refused, the old {file} {}: {why}", goes_on(file));
-        log.say(rt, Priority::Warning, line);
-        format!(in rt.alloc(); "refused: {why}\n")
-    }
-
-    /// Says in the log what is in force.
-    fn say(&mut self, rt: &HostRuntime, what: &str, log: &mut Log) {
-        let line = match self.role.says(rt) {
+    /// Logs what is in force, after a word such as `ready`, and then the role's warnings.
+    pub fn log_status(&mut self, rt: &HostRuntime, what: &str, log: &mut Log) {
+        let line = match self.role.status_text(rt) {
             Ok(text) => format!(in rt.alloc(); "{what}: {text}"),
             Err(refused) => Err(refused),
         };
         log.say(rt, Priority::Notice, line);
-        self.role.settle(rt, log);
-    }
-}
-
-/// The verb after the name of a file: settings are many.
-fn goes_on(file: &str) -> &'static str {
-    if file.ends_with('s') {
-        "go on"
-    } else {
-        "goes on"
+        self.role.log_warnings(rt, log);
     }
 }

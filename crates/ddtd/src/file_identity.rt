@@ -1,9 +1,9 @@
-//! Which file a path names.
+//! The identity of a file, whatever its path.
 
 use std::fs::Metadata;
 use std::os::unix::fs::MetadataExt;
 
-/// A file of the system, whatever its name.
+/// A file, by its device and inode.
 #[derive(Clone, Copy, Debug, PartialEq, Eq)]
 pub struct FileIdentity {
     device: u64,
@@ -11,7 +11,7 @@ pub struct FileIdentity {
 }
 
 impl FileIdentity {
-    /// The file that has this metadata.
+    /// The identity of the file with this metadata.
     pub fn of(metadata: &Metadata) -> FileIdentity {
         FileIdentity {
             device: metadata.dev(),

@@ -1,33 +1,33 @@
-//! What a file says: its bytes become one table of TOML, and the table a configuration or settings.
+//! Loading a file: its bytes become a TOML table, and the table becomes a configuration or settings.
 
 use crate::configuration::{fault_text, seal_text, settings_text, toml_text};
-use crate::source::{MOST_CONFIGURATION, MOST_SETTINGS, Why, read, with_path};
+use crate::input_file::{MOST_CONFIGURATION, MOST_SETTINGS, Message, read, with_path};
 use crate::unknown_keys::{
     UnknownKey, unknown_in_configuration, unknown_in_server_settings, unknown_in_settings,
 };
+use ddt_config::digest::{Seal, check_seal, seal_in};
+use ddt_config::settings::{ServerSettings, Settings};
 use ddt_config::{ConfigFault, ServerConfig, from_table};
-use ddt_digest::{Seal, check_seal, seal_in};
 use ddt_node::has_room_for;
 use ddt_path::{Name, Role};
-use ddt_settings::{ServerSettings, Settings};
 use std::alloc::{AllocError, Global};
 use std::{fmt, str};
 use toml::Table;
 
-/// A configuration, and what is to be said of it.
+/// A configuration, with its summary and its unknown keys.
 #[derive(Drop)]
 pub struct Loaded {
     pub config: ServerConfig,
     pub summary: Summary,
-    /// The keys that nothing reads.
+    /// The unknown keys.
     pub unknown: Vec<UnknownKey>,
 }
 
-/// What a configuration holds, in few words.
+/// The summary of a configuration: its counts and its digest.
 #[derive(Clone, Copy)]
 pub struct Summary {
     pub seal: Seal,
-    /// Whether the file holds the seal too.
+    /// Whether the file contains the seal.
     is_sealed: bool,
 }
 
@@ -59,7 +59,7 @@ impl fmt::Display for Summary {
     }
 }
 
-/// The word of a role.
+/// The word for a role, as the key `kind` has it.
 pub fn role_text(role: Role) -> &'static str {
     match role {
         Role::Node => "node",
@@ -73,7 +73,7 @@ pub fn name_text(name: &Name) -> &str {
 }
 
 /// The configuration in a file.
-pub fn load_configuration(rt: &HostRuntime, path: &str) -> Result<Loaded, Why> {
+pub fn load_configuration(rt: &HostRuntime, path: &str) -> Result<Loaded, Message> {
     let bytes = read(rt, path, MOST_CONFIGURATION)?;
     match configuration_of(rt.alloc(), &bytes) {
         Ok(loaded) => Ok(loaded),
@@ -82,7 +82,7 @@ pub fn load_configuration(rt: &HostRuntime, path: &str) -> Result<Loaded, Why> {
 }
 
 /// The settings in a file.
-pub fn load_settings(rt: &HostRuntime, path: &str) -> Result<Settings, Why> {
+pub fn load_settings(rt: &HostRuntime, path: &str) -> Result<Settings, Message> {
     let bytes = read(rt, path, MOST_SETTINGS)?;
     match settings_of(rt.alloc(), &bytes) {
         Ok(settings) => Ok(settings),
@@ -91,7 +91,10 @@ pub fn load_settings(rt: &HostRuntime, path: &str) -> Result<Settings, Why> {
 }
 
 /// The settings of a server in a file; without one, those that allow no ITR.
-pub fn load_server_settings(rt: &HostRuntime, path: Option<&str>) -> Result<ServerSettings, Why> {
+pub fn load_server_settings(
+    rt: &HostRuntime,
+    path: Option<&str>,
+) -> Result<ServerSettings, Message> {
     let Some(path) = path else {
         return Ok(ServerSettings::none(rt.alloc()));
     };
@@ -102,23 +105,23 @@ pub fn load_server_settings(rt: &HostRuntime, path: Option<&str>) -> Result<Serv
     }
 }
 
-fn server_settings_of(alloc: Global, bytes: &[u8]) -> Result<ServerSettings, Why> {
+fn server_settings_of(alloc: Global, bytes: &[u8]) -> Result<ServerSettings, Message> {
     let text = text_of(alloc, bytes)?;
     server_settings_in(alloc, text, &table_of(alloc, text)?)
 }
 
-fn configuration_of(alloc: Global, bytes: &[u8]) -> Result<Loaded, Why> {
+fn configuration_of(alloc: Global, bytes: &[u8]) -> Result<Loaded, Message> {
     let text = text_of(alloc, bytes)?;
     configuration_in(alloc, text, table_of(alloc, text)?)
 }
 
-fn settings_of(alloc: Global, bytes: &[u8]) -> Result<Settings, Why> {
+fn settings_of(alloc: Global, bytes: &[u8]) -> Result<Settings, Message> {
     let text = text_of(alloc, bytes)?;
     settings_in(alloc, text, &table_of(alloc, text)?)
 }
 
 /// The text that bytes in UTF-8 are.
-pub fn text_of(alloc: Global, bytes: &[u8]) -> Result<&str, Why> {
+pub fn text_of(alloc: Global, bytes: &[u8]) -> Result<&str, Message> {
     match str::from_utf8(bytes) {
         Ok(text) => Ok(text),
         Err(_) => Err(format!(in alloc; "1 Toml: it is no text in UTF-8")),
@@ -126,7 +129,7 @@ pub fn text_of(alloc: Global, bytes: &[u8]) -> Result<&str, Why> {
 }
 
 /// The table of a text.
-pub fn table_of(alloc: Global, text: &str) -> Result<Table, Why> {
+pub fn table_of(alloc: Global, text: &str) -> Result<Table, Message> {
     match toml::table_from_str(alloc, text) {
         Ok(table) if table.is_empty() => {
             Err(format!(in alloc; "2 Field: it is empty: there is no key"))
@@ -137,7 +140,7 @@ pub fn table_of(alloc: Global, text: &str) -> Result<Table, Why> {
 }
 
 /// The configuration of a text and its table, whose seal is its own if it has one.
-pub fn configuration_in(alloc: Global, text: &str, table: Table) -> Result<Loaded, Why> {
+pub fn configuration_in(alloc: Global, text: &str, table: Table) -> Result<Loaded, Message> {
     let unknown = match unknown_in_configuration(alloc, text, &table) {
         Ok(unknown) => unknown,
         Err(refused) => return Err(Err(refused)),
@@ -168,16 +171,20 @@ pub fn configuration_in(alloc: Global, text: &str, table: Table) -> Result<Loade
 }
 
 /// The settings of a text and its table, of which each key is one of settings.
-pub fn settings_in(alloc: Global, text: &str, table: &Table) -> Result<Settings, Why> {
+pub fn settings_in(alloc: Global, text: &str, table: &Table) -> Result<Settings, Message> {
     refuse_unknown(alloc, unknown_in_settings(alloc, text, table))?;
-    match ddt_settings::from_table(alloc, table) {
+    match ddt_config::settings::from_table(alloc, table) {
         Ok(settings) => Ok(settings),
         Err(fault) => Err(settings_text(alloc, &fault)),
     }
 }
 
 /// The settings of a server in a text and its table, of which each key is one of those.
-pub fn server_settings_in(alloc: Global, text: &str, table: &Table) -> Result<ServerSettings, Why> {
+pub fn server_settings_in(
+    alloc: Global,
+    text: &str,
+    table: &Table,
+) -> Result<ServerSettings, Message> {
     refuse_unknown(alloc, unknown_in_server_settings(alloc, text, table))?;
     match ServerSettings::from_table(alloc, table) {
         Ok(settings) => Ok(settings),
@@ -189,7 +196,7 @@ pub fn server_settings_in(alloc: Global, text: &str, table: &Table) -> Result<Se
 pub fn refuse_unknown(
     alloc: Global,
     unknown: Result<Vec<UnknownKey>, AllocError>,
-) -> Result<(), Why> {
+) -> Result<(), Message> {
     let unknown = match unknown {
         Ok(unknown) => unknown,
         Err(refused) => return Err(Err(refused)),

@@ -9,22 +9,22 @@ use std::io::Write;
 /// The descriptor of standard error.
 const STDERR: i32 = 2;
 
-/// A line of the log has at most so many bytes, for which a pipe that is ready has room.
+/// The most bytes of a line: a pipe that is ready has room for them.
 const MOST_LINE: usize = 4096;
 
-/// How much a line matters.
+/// The priority of a line.
 #[derive(Clone, Copy, Debug, PartialEq, Eq)]
 pub enum Priority {
-    /// What keeps the daemon from running.
+    /// The daemon can't run.
     Error,
-    /// What was refused or lost, while the daemon goes on.
+    /// Something was refused or lost, and the daemon goes on.
     Warning,
-    /// A change of its state.
+    /// The daemon's state has changed.
     Notice,
 }
 
 impl Priority {
-    /// The number in front of a line.
+    /// The prefix of a line, with the number of the priority.
     fn prefix(self) -> &'static [u8] {
         match self {
             Priority::Error => b"<3>",
@@ -34,29 +34,29 @@ impl Priority {
     }
 }
 
-/// The log. A line for which there is no room, or no memory, is lost and counted.
+/// The log. A line for which there is no room or no memory is lost, and counted.
 #[derive(Clone, Copy, Debug)]
 pub struct Log {
     lost: u64,
 }
 
 impl Log {
-    /// A log that has lost no line.
+    /// A log that has lost no line yet.
     pub fn new() -> Log {
         Log { lost: 0 }
     }
 
-    /// How many lines are lost.
+    /// The number of lines lost.
     pub fn lost(&self) -> u64 {
         self.lost
     }
 
-    /// Says why the program refuses.
+    /// Logs the reason why the program refuses to run.
     pub fn refuse(&mut self, rt: &HostRuntime, why: &str) {
         self.write(rt, Priority::Error, why);
     }
 
-    /// Writes a line; None stands for one for which there was no memory.
+    /// Logs a line. An error stands for a line for which there was no memory.
     pub fn say(&mut self, rt: &HostRuntime, priority: Priority, line: Result<String, AllocError>) {
         match line {
             Ok(line) => self.write(rt, priority, &line),
@@ -70,7 +70,7 @@ impl Log {
         }
     }
 
-    /// Writes a line, its control characters escaped, if there is room for it; it never waits.
+    /// Writes a line with its control characters escaped, if there is room for it. Never waits.
     fn try_to_write(&mut self, rt: &HostRuntime, priority: Priority, line: &str) -> Option<()> {
         let line = printable(rt.alloc(), line).ok()?;
         let mut whole = Vec::from_slice(rt.alloc(), priority.prefix()).ok()?;
@@ -87,7 +87,7 @@ impl Log {
     }
 }
 
-/// Whether standard error takes a line at once.
+/// Whether standard error takes a line without waiting.
 fn is_ready() -> bool {
     let mut asked = [pollfd {
         fd: STDERR,

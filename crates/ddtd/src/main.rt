@@ -1,93 +1,97 @@
-//! The daemon: a DDT node or a Map-Server, or a Map-Resolver, that runs until it is stopped, over the files, the
-//! sockets, the clock and the streams of a process. Its rounds are those of `ddt_daemon`.
-//! Tests: tests/ddtd, tests/configurations and tests/namespaces.sh.
+//! The program `ddtd`: a daemon that is a DDT node, a Map-Server or a Map-Resolver, with the files, sockets, clock and
+//! streams of its process. The rounds of each role are those of `ddt_daemon`.
+//!
+//! `server` and `map_resolver` are the two roles, `daemon` is their main loop, `reload` and `control_commands` are what
+//! it does between rounds, and `check` is `ddtd check`. Tests: tests/ddtd, tests/configurations and
+//! tests/namespaces.sh.
 #![tactic(auto)]
 
-mod bounded;
-mod clock;
+mod check;
+mod command_line;
 mod configuration;
-mod configuration_check;
-mod control;
 mod control_client;
+mod control_commands;
+mod control_socket;
 mod daemon;
-mod end;
+mod exit_status;
 mod file_identity;
-mod give_ups;
-mod late_addresses;
+mod file_watch;
+mod give_up_log;
+mod input_file;
 mod loading;
 mod log;
+mod log_rate_limit;
 mod map_resolver;
-mod notify;
 mod poll;
 mod printable;
 mod receive_buffer;
 mod registering;
 mod registration_file;
 mod registration_text;
+mod reload;
 mod reply_addresses;
+mod resolver_tables;
 mod server;
-mod servers_known;
+mod server_timeouts;
+mod settings_warnings;
 mod shared_socket;
 mod site_changes;
 mod site_keys;
 mod sockets;
-mod source;
 mod standard_streams;
-mod statistics_form;
-mod tables;
-mod times;
+mod statistics_format;
+mod system_clock;
+mod systemd_notify;
+mod unbound_locators;
 mod unknown_keys;
-mod unrecognized;
-mod warnings;
-mod watch;
-mod words;
+mod unrecognized_afi_log;
 
-use end::End;
+use command_line::{Invocation, parse_command_line};
+use exit_status::ExitStatus;
 use log::{Log, Priority};
 use std::io::ErrorKind;
 use std::process::ExitCode;
 use std::{env, io};
-use words::{Asked, read_asked};
 
 fn main(rt: HostRuntime) -> ExitCode {
     let mut log = Log::new();
-    ExitCode::from(run_words(&rt, &mut log).number())
+    ExitCode::from(run_command_line(&rt, &mut log).number())
 }
 
-/// Runs the command that the words of the process ask for.
-fn run_words(rt: &HostRuntime, log: &mut Log) -> End {
+/// Runs the command of the process's arguments.
+fn run_command_line(rt: &HostRuntime, log: &mut Log) -> ExitStatus {
     if let Err(error) = standard_streams::open_closed(rt) {
         let line = format!(in rt.alloc();
             "a standard stream is closed, and so is /dev/null: {error}"
         );
         log.say(rt, Priority::Error, line);
-        return End::Refused;
+        return ExitStatus::Refused;
     }
-    let words = match words_of(rt) {
+    let words = match arguments_of(rt) {
         Ok(words) => words,
         Err(error) if error.kind() == ErrorKind::OutOfMemory => {
             log.refuse(rt, "out of memory");
-            return End::Refused;
+            return ExitStatus::Refused;
         }
         Err(_) => {
             log.refuse(rt, "a word is no text");
-            return End::Refused;
+            return ExitStatus::Refused;
         }
     };
-    match read_asked(rt.alloc(), &words) {
-        Ok(Asked::Check(asked)) => configuration_check::check(rt, &asked),
-        Ok(Asked::Serve(asked)) => server::serve(rt, &asked, log),
-        Ok(Asked::Resolve(asked)) => map_resolver::resolve(rt, &asked, log),
-        Ok(Asked::Tell(asked)) => control_client::tell(rt, &asked, log),
-        // Help and the version are no mistakes, if they could be printed.
+    match parse_command_line(rt.alloc(), &words) {
+        Ok(Invocation::Check(args)) => check::check(rt, &args),
+        Ok(Invocation::Serve(args)) => server::serve(rt, &args, log),
+        Ok(Invocation::Resolve(args)) => map_resolver::resolve(rt, &args, log),
+        Ok(Invocation::Tell(args)) => control_client::tell(rt, &args, log),
+        // Help and the version end with status 0, if they could be printed.
         Err(error) => match error.print(rt) {
-            Ok(()) if !error.use_stderr() => End::Answered,
-            _ => End::Refused,
+            Ok(()) if !error.use_stderr() => ExitStatus::Answered,
+            _ => ExitStatus::Refused,
         },
     }
 }
 
-/// The words that the process was started with, the program's name first.
-fn words_of(rt: &HostRuntime) -> io::Result<Vec<String>> {
+/// The arguments of the process, the program's name first.
+fn arguments_of(rt: &HostRuntime) -> io::Result<Vec<String>> {
     Ok(env::args(rt)?.collect(rt.alloc())?)
 }

@@ -1,4 +1,4 @@
-//! What is waited for, all at once.
+//! Waits for all descriptors of the daemon at once.
 
 use libc::net::{POLLIN, POLLOUT, poll};
 use libc::types::pollfd;
@@ -6,16 +6,16 @@ use std::alloc::Global;
 use std::ops::Range;
 use std::os::fd::AsRawFd;
 
-/// The descriptors that are waited for, each known by its place.
+/// The descriptors to wait for; each is known by its place.
 #[derive(Drop)]
 pub struct Poll {
     asked: Vec<pollfd>,
-    /// Whether the system failed to say what is there.
+    /// Whether the last wait failed.
     has_failed: bool,
 }
 
 impl Poll {
-    /// Nothing is waited for.
+    /// A poll without descriptors.
     pub fn new(alloc: Global) -> Poll {
         Poll {
             asked: Vec::new(alloc),
@@ -23,17 +23,17 @@ impl Poll {
         }
     }
 
-    /// Waits for nothing any more. It keeps its memory.
+    /// Removes all descriptors. The memory is kept.
     pub fn clear(&mut self) {
         self.asked.clear();
     }
 
-    /// How many are waited for.
+    /// The number of descriptors.
     pub fn len(&self) -> usize {
         self.asked.len()
     }
 
-    /// Waits for what this one gives too. It is left out if out of memory.
+    /// Adds a descriptor, to wait until it can be read. It is left out if out of memory.
     pub fn add<F: AsRawFd>(&mut self, source: &F) {
         let _added = self.asked.push(pollfd {
             fd: source.as_raw_fd(),
@@ -42,7 +42,7 @@ impl Poll {
         });
     }
 
-    /// Waits until this one takes something too. It is left out if out of memory.
+    /// Adds a descriptor, to wait until it can be written. It is left out if out of memory.
     pub fn add_writer<F: AsRawFd>(&mut self, sink: &F) {
         let _added = self.asked.push(pollfd {
             fd: sink.as_raw_fd(),
@@ -51,13 +51,13 @@ impl Poll {
         });
     }
 
-    /// Waits until something is there, at most so many milliseconds; whether the system did so.
+    /// Waits until a descriptor is ready, at most `millis` milliseconds. Returns whether the system could wait.
     pub fn wait(&mut self, millis: i32) -> bool {
         self.has_failed = poll(self.asked.as_mut_slice(), millis) < 0;
         !self.has_failed
     }
 
-    /// Whether something is at a place.
+    /// Whether the descriptor at a place is ready.
     pub fn is_ready(&self, place: usize) -> bool {
         match self.asked.as_slice().get(place) {
             Some(asked) => asked.revents != 0,
@@ -65,7 +65,7 @@ impl Poll {
         }
     }
 
-    /// Whether something may be at one of these places: where the system failed to say so, at each.
+    /// Whether one of these places may be ready; true for all if the last wait failed.
     pub fn may_be_ready(&self, mut places: Range<usize>) -> bool {
         self.has_failed || places.any(|place| self.is_ready(place))
     }

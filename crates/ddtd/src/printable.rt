@@ -1,4 +1,4 @@
-//! Texts as they may be printed: a control character of a file or a word never reaches a terminal or a log.
+//! Escapes control characters, so that those of a file or an argument never reach a terminal or a log.
 
 use std::alloc::{AllocError, Global};
 
@@ -9,7 +9,7 @@ pub fn printable(alloc: Global, text: &str) -> Result<String, AllocError> {
     Ok(escaped)
 }
 
-/// The same of each line of a text; the line ends stay.
+/// The text with the control characters of each line escaped; the line ends stay.
 pub fn printable_lines(alloc: Global, text: &str) -> Result<String, AllocError> {
     let mut escaped = String::new(alloc);
     for line in text.split_inclusive('\n') {

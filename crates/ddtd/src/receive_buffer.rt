@@ -1,12 +1,12 @@
-//! The room that the system has for datagrams that a socket hasn't taken yet.
+//! The size of a socket's receive buffer.
 
 use libc::net::{SO_RCVBUF, SOL_SOCKET, setsockopt};
 use std::os::fd::AsRawFd;
 
-/// The room that is asked for, in bytes: for what comes while a large configuration is taken up.
+/// The requested size in bytes, enough for the datagrams that arrive during the reload of a large configuration.
 const RECEIVE_BUFFER: i32 = 4 << 20;
 
-/// Asks for 4 MiB of room. The system gives at most its `net.core.rmem_max`; where it refuses, the room stays the same.
+/// Requests a receive buffer of 4 MiB. The system grants at most `net.core.rmem_max`; if it refuses, the size stays.
 pub fn enlarge<F: AsRawFd>(socket: &F) {
     let mut value = [0; 16];
     value[..4].copy_from_slice(&RECEIVE_BUFFER.to_ne_bytes());

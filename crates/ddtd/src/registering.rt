@@ -1,12 +1,12 @@
-//! What is done about registrations beside taking them: the file that keeps them, the log, and what is told of them.
+//! What a server does for registrations beside its rounds: the file of registrations, the log, the counts and `sites`.
 
-use crate::clock::Clock;
+use crate::command_line::ServeArgs;
+use crate::input_file::Message;
 use crate::log::Log;
 use crate::registration_file::RegistrationFile;
 use crate::site_changes::{LoggedSites, registered_count, sites_text};
 use crate::site_keys::prefix_text;
-use crate::source::Why;
-use crate::words::ServeAsked;
+use crate::system_clock::Clock;
 use ddt_daemon::ServerStatistics;
 use ddt_map_server::{MapServer, RegisterCounts};
 use ddt_path::{Prefix, Prefixed};
@@ -14,7 +14,7 @@ use ddt_registrar::{KeyedSite, NotAdded, Registrar};
 use ddt_trie::HashedMap;
 use std::alloc::{AllocError, Global};
 
-/// What is done about registrations beside taking them.
+/// The file of registrations and the logged ETRs of each site.
 #[derive(Drop)]
 pub struct Registering<'a> {
     /// Whether there is a file of keys.
@@ -23,11 +23,11 @@ pub struct Registering<'a> {
     logged: LoggedSites,
 }
 
-/// A registrar of these sites. Refused, in words, by the first that it doesn't take.
+/// A registrar of these sites. Fails with a message for the first site that it refuses.
 pub fn registrar_of(
     alloc: Global,
     sites: Vec<KeyedSite>,
-) -> Result<Registrar<HashedMap<u32>>, Why> {
+) -> Result<Registrar<HashedMap<u32>>, Message> {
     let mut registrar = Registrar::new(alloc);
     for site in sites {
         let prefix = site.prefix();
@@ -38,7 +38,7 @@ pub fn registrar_of(
     Ok(registrar)
 }
 
-/// Why a registrar doesn't take a site, in words.
+/// The message for a site that a registrar refuses.
 fn not_added_text(alloc: Global, prefix: Prefix, fault: NotAdded) -> Result<String, AllocError> {
     let prefix = prefix_text(alloc, prefix)?;
     match fault {
@@ -49,26 +49,26 @@ fn not_added_text(alloc: Global, prefix: Prefix, fault: NotAdded) -> Result<Stri
 }
 
 impl<'a> Registering<'a> {
-    /// The file of registrations, which is written anew, and a log that has these sites.
+    /// Writes the file of registrations anew, and notes the ETRs of these sites as logged.
     pub fn start(
         rt: &HostRuntime,
-        asked: &ServeAsked<'a>,
+        args: &ServeArgs<'a>,
         sites: &[KeyedSite],
         clock: Clock,
-    ) -> Result<Registering<'a>, Why> {
-        let mut file = RegistrationFile::new(rt.alloc(), asked.registrations);
+    ) -> Result<Registering<'a>, Message> {
+        let mut file = RegistrationFile::new(rt.alloc(), args.registrations);
         file.open(rt, sites, clock)?;
         let Ok(logged) = LoggedSites::of(rt.alloc(), sites) else {
             return Err(Err(AllocError));
         };
         Ok(Registering {
-            is_on: asked.keys.is_some(),
+            is_on: args.keys.is_some(),
             file,
             logged,
         })
     }
 
-    /// Goes on with other sites.
+    /// Continues with the sites of a reloaded configuration.
     pub fn renew(&mut self, rt: &HostRuntime, sites: &[KeyedSite], log: &mut Log) {
         self.file.renew(rt, log);
         self.logged = match LoggedSites::of(rt.alloc(), sites) {
@@ -77,8 +77,8 @@ impl<'a> Registering<'a> {
         };
     }
 
-    /// Keeps in the file what has changed in a round.
-    pub fn keep(
+    /// Writes to the file what has changed in a round.
+    pub fn write_changes(
         &mut self,
         rt: &HostRuntime,
         server: &mut MapServer<HashedMap<u32>>,
@@ -86,14 +86,15 @@ impl<'a> Registering<'a> {
         log: &mut Log,
     ) {
         if self.is_on {
-            let touched = server.touched.prefixes();
-            self.file.keep(rt, server.registrar(), touched, clock, log);
-            server.touched.clear();
+            let touched = server.changed_sites.prefixes();
+            self.file
+                .write_changes(rt, server.registrar(), touched, clock, log);
+            server.changed_sites.clear();
         }
     }
 
-    /// Ends what is over, and says in the log of which sites the ETRs have changed.
-    pub fn end(
+    /// Ends expired registrations, and logs the sites whose ETRs have changed. `moment` is in milliseconds.
+    pub fn end_expired(
         &mut self,
         rt: &HostRuntime,
         server: &mut MapServer<HashedMap<u32>>,
@@ -101,14 +102,14 @@ impl<'a> Registering<'a> {
         log: &mut Log,
     ) {
         if self.is_on {
-            // If out of memory, it is done in the next second.
+            // If out of memory, they end in the next second.
             let _ended = server.end(rt.alloc(), moment);
-            self.logged.say_changes(rt, server.registrar().sites(), log);
+            self.logged.log_changes(rt, server.registrar().sites(), log);
         }
     }
 
-    /// How many sites have keys, and how many are registered; nothing where there is no file of keys.
-    pub fn says(&self, alloc: Global, sites: &[KeyedSite]) -> Why {
+    /// The number of sites that have keys, and of those that are registered; empty without a file of keys.
+    pub fn status_text(&self, alloc: Global, sites: &[KeyedSite]) -> Message {
         if !self.is_on {
             return Ok(String::new(alloc));
         }
@@ -119,8 +120,9 @@ impl<'a> Registering<'a> {
         )
     }
 
-    /// Has counts of requests count no Map-Register where ETRs register, and all of them as no request where they don't.
-    pub fn set_apart(&self, registers: RegisterCounts, statistics: &mut ServerStatistics) {
+    /// Corrects the counts of requests for Map-Registers. With keys they are left out; without keys they count as no
+    /// request.
+    pub fn correct_counts(&self, registers: RegisterCounts, statistics: &mut ServerStatistics) {
         let received = registers.received();
         let counts = &mut statistics.counts;
         counts.received = counts.received.saturating_add(received);
@@ -134,8 +136,8 @@ impl<'a> Registering<'a> {
         *sent = sent.saturating_sub(registers.notified);
     }
 
-    /// What is counted of Map-Registers, a line each; nothing where there is no file of keys.
-    pub fn statistics(&self, alloc: Global, server: &MapServer<HashedMap<u32>>) -> Why {
+    /// The counts of Map-Registers, a line each; empty without a file of keys.
+    pub fn statistics(&self, alloc: Global, server: &MapServer<HashedMap<u32>>) -> Message {
         if !self.is_on {
             return Ok(String::new(alloc));
         }
@@ -148,8 +150,8 @@ impl<'a> Registering<'a> {
         )
     }
 
-    /// What is told of sites.
-    pub fn answer(&self, alloc: Global, sites: &[KeyedSite], moment: u64) -> Why {
+    /// The answer to `sites`. `moment` is in milliseconds.
+    pub fn answer(&self, alloc: Global, sites: &[KeyedSite], moment: u64) -> Message {
         if !self.is_on {
             return format!(in alloc; "refused: no site has a key\n");
         }

@@ -1,13 +1,13 @@
-//! The file of registrations: it keeps what is registered over a restart.
+//! The file of registrations, which keeps them over a restart.
 //!
-//! After a header, a site's lines are written after the file's other lines whenever something of it has changed, so the
-//! last ones count. Once the file has grown a lot, another one is written with the lines of each site once, some sites in
-//! each round, and renamed into its place.
+//! After a header, the lines of a site are appended whenever its registrations have changed, so its last lines count.
+//! Once the file has grown a lot, a successor is written with the lines of each site once, some sites in each round,
+//! and renamed into its place.
 
-use crate::clock::Clock;
+use crate::input_file::{Message, read};
 use crate::log::{Log, Priority};
-use crate::registration_text::{KeptSite, push_site, site_in};
-use crate::source::{Why, read};
+use crate::registration_text::{SavedSite, push_site, site_in};
+use crate::system_clock::Clock;
 use ddt_path::{Prefix, Prefixed};
 use ddt_registrar::{KeyedSite, Registrar};
 use ddt_trie::{HashedMap, MOST_ENTRIES, PrefixMap};
@@ -23,21 +23,21 @@ const MOST_BYTES: u64 = 1_073_741_824;
 /// The first line.
 const HEADER: &str = "ddtd registrations 1\n";
 
-/// Only its owner reads and writes it: it has digests of secrets.
+/// The file's mode: only its owner reads and writes it, since it has digests of secrets.
 const MODE: u32 = 0o600;
 
-/// It is written anew once it has twice as many bytes as when it was last, and so many more.
+/// The file is written anew once it has twice the bytes that it had after the last time, and this many more.
 const GROWTH: u64 = 1_048_576;
 
-/// The lines of so many sites are written in a round.
+/// The most sites whose lines are written to the successor in a round.
 const MOST_SITES: usize = 256;
 
-/// A file that is written to take the other's place.
+/// A file that is written to replace the current one.
 #[derive(Drop)]
 struct Successor {
     file: File,
     len: u64,
-    /// The place of the next site whose lines are written.
+    /// The place of the next site to write.
     next: usize,
 }
 
@@ -45,34 +45,34 @@ struct Successor {
 #[derive(Drop)]
 pub struct RegistrationFile<'a> {
     path: Option<&'a str>,
-    /// Open, unless it couldn't be written.
+    /// The open file; None after a write has failed.
     file: Option<File>,
     len: u64,
-    /// How many bytes it had when it took its place.
+    /// The bytes that the file had when it was last written anew.
     first: u64,
     successor: Option<Successor>,
     text: Vec<u8>,
-    /// Whether the log says that it can't be written.
-    is_said: bool,
-    /// The second in which it was last tried to write one, where none is open.
+    /// Whether the log has it that the file can't be written.
+    is_failure_logged: bool,
+    /// The second of the last try to write a file while none is open.
     tried: Option<u64>,
 }
 
-/// What a file of registrations keeps, and of how many lines nothing is known.
+/// The sites of a file of registrations, and the number of lines that couldn't be read.
 #[derive(Drop)]
-struct Kept {
-    sites: Vec<KeptSite>,
+struct SavedSites {
+    sites: Vec<SavedSite>,
     unread: u64,
 }
 
-/// Has sites go on with what a file of registrations keeps of them, as the last lines of each say; how many lines
-/// weren't read. Where there is no such file, nothing was registered.
+/// Restores the registrations of sites from a file, by the last lines of each site. Returns the number of lines that
+/// couldn't be read. Without a file, nothing was registered.
 pub fn restore(
     rt: &HostRuntime,
     path: Option<&str>,
     sites: &mut [KeyedSite],
     clock: Clock,
-) -> Result<u64, Why> {
+) -> Result<u64, Message> {
     let Some(path) = path else {
         return Ok(0);
     };
@@ -87,7 +87,7 @@ pub fn restore(
     let Some(lines) = bytes.strip_prefix(HEADER.as_bytes()) else {
         return Err(format!(in rt.alloc(); "{path}: no file of registrations"));
     };
-    let kept = match kept_in(rt.alloc(), lines, clock) {
+    let kept = match saved_sites_in(rt.alloc(), lines, clock) {
         Ok(kept) => kept,
         Err(refused) => return Err(Err(refused)),
     };
@@ -97,13 +97,13 @@ pub fn restore(
     }
 }
 
-/// Whether nothing is left of a file but a part of its first line, as after a loss of power.
+/// Whether a file has only a part of its first line, or only zeros, as after a loss of power.
 fn is_cut(bytes: &[u8]) -> bool {
     HEADER.as_bytes().starts_with(bytes) && bytes.len() < HEADER.len()
         || bytes.iter().all(|byte| *byte == 0)
 }
 
-/// A file of its own at a path: what was there goes, and no link is followed.
+/// Creates a file at a path. A file that is there is removed, and no link is followed.
 fn new_file(rt: &HostRuntime, path: &str) -> io::Result<File> {
     match fs::remove_file(rt, path) {
         Err(error) if error.kind() != ErrorKind::NotFound => return Err(error),
@@ -114,9 +114,9 @@ fn new_file(rt: &HostRuntime, path: &str) -> io::Result<File> {
     options.open(rt, path)
 }
 
-/// The sites of which all lines are there.
-fn kept_in(alloc: Global, bytes: &[u8], clock: Clock) -> Result<Kept, AllocError> {
-    let mut kept = Kept {
+/// The sites whose lines are all there.
+fn saved_sites_in(alloc: Global, bytes: &[u8], clock: Clock) -> Result<SavedSites, AllocError> {
+    let mut kept = SavedSites {
         sites: Vec::new(alloc),
         unread: 0,
     };
@@ -124,8 +124,8 @@ fn kept_in(alloc: Global, bytes: &[u8], clock: Clock) -> Result<Kept, AllocError
     for line in bytes.split(|byte| *byte == b'\n') {
         let line = str::from_utf8(line).unwrap_or("?");
         open = match open {
-            Some(site) => kept.go_on(alloc, site, line, clock)?,
-            None => kept.begin(alloc, line),
+            Some(site) => kept.next_line(alloc, site, line, clock)?,
+            None => kept.first_line(alloc, line),
         };
     }
     if open.is_some() {
@@ -134,9 +134,9 @@ fn kept_in(alloc: Global, bytes: &[u8], clock: Clock) -> Result<Kept, AllocError
     Ok(kept)
 }
 
-impl Kept {
-    /// A line where no site is open: that of the next one.
-    fn begin(&mut self, alloc: Global, line: &str) -> Option<KeptSite> {
+impl SavedSites {
+    /// Reads a line that must be the first of a site. Returns the site, which is open until its line `end`.
+    fn first_line(&mut self, alloc: Global, line: &str) -> Option<SavedSite> {
         let site = site_in(alloc, line);
         if site.is_none() && !line.is_empty() {
             self.unread = self.unread.saturating_add(1);
@@ -144,21 +144,21 @@ impl Kept {
         site
     }
 
-    /// A line where a site is open: what is open after it.
-    fn go_on(
+    /// Reads a line of an open site. Returns the site that is open after it.
+    fn next_line(
         &mut self,
         alloc: Global,
-        mut site: KeptSite,
+        mut site: SavedSite,
         line: &str,
         clock: Clock,
-    ) -> Result<Option<KeptSite>, AllocError> {
+    ) -> Result<Option<SavedSite>, AllocError> {
         if line == "end" {
             self.sites.push(site)?;
             return Ok(None);
         }
         match site.add(alloc, line, clock) {
             Some(()) => Ok(Some(site)),
-            // The site is lost with its line.
+            // The whole site is lost.
             None => {
                 self.unread = self.unread.saturating_add(1);
                 Ok(site_in(alloc, line))
@@ -169,7 +169,7 @@ impl Kept {
 
 fn restore_all(
     alloc: Global,
-    kept: Vec<KeptSite>,
+    kept: Vec<SavedSite>,
     sites: &mut [KeyedSite],
 ) -> Result<(), AllocError> {
     let places = places_of(alloc, sites)?;
@@ -198,7 +198,7 @@ fn places_of(alloc: Global, sites: &[KeyedSite]) -> Result<HashedMap<u32>, Alloc
 }
 
 impl<'a> RegistrationFile<'a> {
-    /// The file at a path, which isn't written yet.
+    /// The file at a path. Nothing is written yet.
     pub fn new(alloc: Global, path: Option<&'a str>) -> RegistrationFile<'a> {
         RegistrationFile {
             path,
@@ -207,13 +207,18 @@ impl<'a> RegistrationFile<'a> {
             first: 0,
             successor: None,
             text: Vec::new(alloc),
-            is_said: false,
+            is_failure_logged: false,
             tried: None,
         }
     }
 
-    /// Writes it with all sites, and opens it. Refused, in words, as the system refuses to write it.
-    pub fn open(&mut self, rt: &HostRuntime, sites: &[KeyedSite], clock: Clock) -> Result<(), Why> {
+    /// Writes the file with all sites, and keeps it open. Fails with a message if the system refuses to write it.
+    pub fn open(
+        &mut self,
+        rt: &HostRuntime,
+        sites: &[KeyedSite],
+        clock: Clock,
+    ) -> Result<(), Message> {
         let Some(path) = self.path else {
             return Ok(());
         };
@@ -235,22 +240,22 @@ impl<'a> RegistrationFile<'a> {
             if self.successor.is_none() {
                 return Ok(());
             }
-            self.go_on(rt, path, sites, clock)?;
+            self.write_successor(rt, path, sites, clock)?;
         }
-        self.go_on(rt, path, sites, clock)
+        self.write_successor(rt, path, sites, clock)
     }
 
-    /// Begins to write another one, as where the sites are others from now on.
+    /// Starts a successor, such as after a reload with other sites.
     pub fn renew(&mut self, rt: &HostRuntime, log: &mut Log) {
         if let Some(path) = self.path {
             let done = self.begin(rt, path);
-            self.say(rt, path, done, log);
+            self.log_outcome(rt, path, done, log);
         }
     }
 
-    /// Writes what has changed, and goes on with what is being written. `touched` are the sites that have changed; None
-    /// where all may have.
-    pub fn keep(
+    /// Writes the sites that have changed, and more of the successor. `touched` has the sites that have changed; with
+    /// None all may have.
+    pub fn write_changes(
         &mut self,
         rt: &HostRuntime,
         registrar: &Registrar<HashedMap<u32>>,
@@ -261,11 +266,11 @@ impl<'a> RegistrationFile<'a> {
         let Some(path) = self.path else {
             return;
         };
-        let done = self.try_to_keep(rt, path, registrar, touched, clock);
-        self.say(rt, path, done, log);
+        let done = self.try_to_write(rt, path, registrar, touched, clock);
+        self.log_outcome(rt, path, done, log);
     }
 
-    fn try_to_keep(
+    fn try_to_write(
         &mut self,
         rt: &HostRuntime,
         path: &str,
@@ -281,23 +286,23 @@ impl<'a> RegistrationFile<'a> {
             None => self.begin(rt, path)?,
         }
         if self.successor.is_some() {
-            return self.go_on(rt, path, registrar.sites(), clock);
+            return self.write_successor(rt, path, registrar.sites(), clock);
         }
         if self.is_grown() {
-            // Where another one can't be written, this one grows on.
+            // If no successor can be written, this file grows on.
             self.first = self.len;
             self.begin(rt, path)?;
         }
         Ok(())
     }
 
-    /// Whether it has grown so that another one is to be written.
+    /// Whether the file has grown so much that a successor is to be written.
     fn is_grown(&self) -> bool {
         let most = self.first.saturating_mul(2).saturating_add(GROWTH);
         self.len > most.min(MOST_BYTES / 2)
     }
 
-    /// Begins to write one where none is open, once in a second.
+    /// Starts a file while none is open, once a second.
     fn begin_again(&mut self, rt: &HostRuntime, path: &str, second: u64) -> io::Result<()> {
         if self.tried == Some(second) {
             return Ok(());
@@ -306,7 +311,7 @@ impl<'a> RegistrationFile<'a> {
         self.begin(rt, path)
     }
 
-    /// Writes the lines of sites that have changed.
+    /// Appends the lines of the sites that have changed.
     fn append(
         &mut self,
         registrar: &Registrar<HashedMap<u32>>,
@@ -325,14 +330,14 @@ impl<'a> RegistrationFile<'a> {
         }
         let written = self.write_text();
         if written.is_err() {
-            // What was written of a line is in neither file that is begun from now on.
+            // A part of a line may be written, so both files are given up.
             self.file = None;
             self.successor = None;
         }
         written
     }
 
-    /// Writes the lines that are ready to what is open.
+    /// Writes the prepared lines to the open file and the successor.
     fn write_text(&mut self) -> io::Result<()> {
         let len = self.text.len() as u64;
         if let Some(file) = &mut self.file {
@@ -346,7 +351,7 @@ impl<'a> RegistrationFile<'a> {
         Ok(())
     }
 
-    /// Begins a file that is to take its place.
+    /// Starts a successor.
     fn begin(&mut self, rt: &HostRuntime, path: &str) -> io::Result<()> {
         let mut file = new_file(rt, &format!(in rt.alloc(); "{path}.new")?)?;
         file.write_all(HEADER.as_bytes())?;
@@ -358,8 +363,8 @@ impl<'a> RegistrationFile<'a> {
         Ok(())
     }
 
-    /// Writes the lines of some more sites there. After the last, it takes its place.
-    fn go_on(
+    /// Writes some more sites to the successor. After the last site, it replaces the file.
+    fn write_successor(
         &mut self,
         rt: &HostRuntime,
         path: &str,
@@ -391,17 +396,17 @@ impl<'a> RegistrationFile<'a> {
         Ok(())
     }
 
-    /// Says in the log, once, that something can't be kept, and that it is kept again.
-    fn say(&mut self, rt: &HostRuntime, path: &str, done: io::Result<()>, log: &mut Log) {
+    /// Logs once that the file can't be written, and once that it can be written again.
+    fn log_outcome(&mut self, rt: &HostRuntime, path: &str, done: io::Result<()>, log: &mut Log) {
         match done {
-            Ok(()) if self.is_said && self.file.is_some() => {
-                self.is_said = false;
+            Ok(()) if self.is_failure_logged && self.file.is_some() => {
+                self.is_failure_logged = false;
                 let line = format!(in rt.alloc(); "registrations are kept again: {path}");
                 log.say(rt, Priority::Notice, line);
             }
             Ok(()) => {}
-            Err(error) if !self.is_said => {
-                self.is_said = true;
+            Err(error) if !self.is_failure_logged => {
+                self.is_failure_logged = true;
                 let line = format!(in rt.alloc(); "registrations aren't kept: {path}: {error}");
                 log.say(rt, Priority::Warning, line);
             }

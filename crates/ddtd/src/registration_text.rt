@@ -1,11 +1,15 @@
-//! What is registered for a site, as lines of the file of registrations.
+//! The registrations of a site as lines of the file of registrations: writing and reading them.
 //!
-//! A site's lines are `site PREFIX STATE`, where STATE says whether an xTR has registered; then for each registration
-//! `xtr FROM KEY ALGORITHM DIGEST UNTIL ADDRESS/PRIORITY..`, where DIGEST is that of its key, and for each last nonce
-//! `nonce KEY ALGORITHM NONCE XTR`; and `end`. FROM is an address, or XTR, which is an xTR-ID, a slash and a Site-ID, or
-//! `-` in a message without these. UNTIL is in milliseconds since 1970. Nonces and IDs are in hexadecimal digits.
+//! The lines of a site:
+//! - `site PREFIX STATE`, where STATE is `registered` or `new`
+//! - for each registration `xtr FROM KEY ALGORITHM DIGEST UNTIL ADDRESS/PRIORITY..`, where DIGEST is that of its key
+//! - for each last nonce `nonce KEY ALGORITHM NONCE XTR`
+//! - `end`
+//!
+//! FROM is an address or XTR. XTR is an xTR-ID, a slash and a Site-ID, or `-` for a message without these. UNTIL is in
+//! milliseconds since 1970. Nonces and IDs are in hexadecimal digits.
 
-use crate::clock::Clock;
+use crate::system_clock::Clock;
 use ddt_foreign::Ranked;
 use ddt_map_register::XtrId;
 use ddt_path::{Locator, MOST_LOCATORS, Prefix};
@@ -14,33 +18,33 @@ use ddt_text::{parse_locator, parse_prefix, write_locator, write_prefix};
 use sha2::{Digest, Sha256};
 use std::alloc::{AllocError, Global};
 
-/// So many xTRs register for a site at most.
+/// The most xTRs registered for a site.
 const MOST_XTRS: usize = 8;
 
-/// So many last nonces are kept of a site at most.
+/// The most last nonces of a site.
 const MOST_NONCES: usize = 32;
 
-/// What was kept of a site.
+/// A site as the file has it.
 #[derive(Drop)]
-pub struct KeptSite {
+pub struct SavedSite {
     pub prefix: Prefix,
     has_registered: bool,
-    live: Vec<KeptRegistration>,
+    live: Vec<SavedRegistration>,
     nonces: Vec<LastNonce>,
 }
 
-/// A registration, and the digest of the key that it was made under.
+/// A registration, and the digest of the key that it was authenticated with.
 #[derive(Drop)]
-struct KeptRegistration {
+struct SavedRegistration {
     registration: Registration,
     digest: u128,
 }
 
-impl KeptSite {
-    /// Has a site go on with it: with what was registered under keys that are still the same, and with the last nonces
-    /// under keys that there are. Fails only if out of memory.
+impl SavedSite {
+    /// Restores a site: the registrations whose keys are unchanged, and the last nonces of keys that the site has.
+    /// Fails only if out of memory.
     pub fn restore(self, site: &mut KeyedSite) -> Result<(), AllocError> {
-        let KeptSite {
+        let SavedSite {
             has_registered,
             live,
             mut nonces,
@@ -60,7 +64,7 @@ impl KeptSite {
     }
 }
 
-impl KeptRegistration {
+impl SavedRegistration {
     /// Whether its key is one of these.
     fn is_under(&self, keys: &[Key]) -> bool {
         let registration = &self.registration;
@@ -91,7 +95,7 @@ fn digest_of(key: &Key) -> u128 {
     first
 }
 
-/// The lines of a site.
+/// Appends the lines of a site.
 pub fn push_site(text: &mut Vec<u8>, site: &KeyedSite, clock: Clock) -> Result<(), AllocError> {
     let alloc = *text.allocator();
     let state = if site.has_registered {
@@ -111,7 +115,7 @@ pub fn push_site(text: &mut Vec<u8>, site: &KeyedSite, clock: Clock) -> Result<(
     text.extend_from_slice(b"end\n")
 }
 
-/// The line of a registration; none where its key is gone.
+/// Appends the line of a registration; nothing if its key is gone.
 fn push_registration(
     text: &mut Vec<u8>,
     keys: &[Key],
@@ -137,7 +141,7 @@ fn push_registration(
     Ok(())
 }
 
-/// The address or the IDs of an xTR.
+/// Appends the address or the IDs of an xTR.
 pub fn push_sender(text: &mut Vec<u8>, sender: Sender) -> Result<(), AllocError> {
     match sender {
         Sender::At(address) => write_locator(text, address),
@@ -162,8 +166,8 @@ fn push_nonce(text: &mut Vec<u8>, nonce: &LastNonce) -> Result<(), AllocError> {
     Ok(())
 }
 
-/// A site without its registrations and nonces, from its first line; None where it isn't of that form.
-pub fn site_in(alloc: Global, line: &str) -> Option<KeptSite> {
+/// A site without registrations and nonces, from its first line; None if the line has another form.
+pub fn site_in(alloc: Global, line: &str) -> Option<SavedSite> {
     let mut words = line.strip_prefix("site ")?.split(' ');
     let prefix = parse_prefix(words.next()?.as_bytes()).ok()?;
     let has_registered = match words.next()? {
@@ -171,7 +175,7 @@ pub fn site_in(alloc: Global, line: &str) -> Option<KeptSite> {
         "new" => false,
         _ => return None,
     };
-    Some(KeptSite {
+    Some(SavedSite {
         prefix,
         has_registered,
         live: Vec::new(alloc),
@@ -179,8 +183,8 @@ pub fn site_in(alloc: Global, line: &str) -> Option<KeptSite> {
     })
 }
 
-impl KeptSite {
-    /// Adds what a line between the first and the last says; None where it isn't of one of these forms, or is too much.
+impl SavedSite {
+    /// Adds the registration or nonce of a line. None if the line has neither form, or the site has too many already.
     pub fn add(&mut self, alloc: Global, line: &str, clock: Clock) -> Option<()> {
         if let Some(rest) = line.strip_prefix("xtr ") {
             let registration = registration_in(alloc, rest, clock)?;
@@ -199,7 +203,7 @@ impl KeptSite {
     }
 }
 
-fn registration_in(alloc: Global, words: &str, clock: Clock) -> Option<KeptRegistration> {
+fn registration_in(alloc: Global, words: &str, clock: Clock) -> Option<SavedRegistration> {
     let mut words = words.split(' ');
     let sender = sender_in(words.next()?)?;
     let key_id = words.next()?.parse::<u8>().ok()?;
@@ -220,7 +224,7 @@ fn registration_in(alloc: Global, words: &str, clock: Clock) -> Option<KeptRegis
         etrs,
         deadline: clock.moment_at(until),
     };
-    Some(KeptRegistration {
+    Some(SavedRegistration {
         registration,
         digest,
     })

@@ -1,15 +1,15 @@
-//! Where a resolver that listens over one family replies to ITRs that name RLOCs of both: an answer goes to the first
-//! ITR-RLOC of a family that it has (RFC 9301, section 5.5).
+//! The addresses that replies go to if a resolver listens over one address family and ITRs name RLOCs of both: the
+//! first ITR-RLOC of the resolver's family (RFC 9301, section 5.5).
 
 use ddt_foreign::read_foreign_request;
 use ddt_path::Locator;
 use ddt_wire::read_negative_reply;
 use std::alloc::Global;
 
-/// So many requests are remembered. One more, and the oldest is forgotten.
+/// The most requests remembered; one more drops the oldest.
 const MOST_REQUESTS: usize = 1024;
 
-/// A request whose first ITR-RLOC is of a family that the resolver hasn't.
+/// A request whose first ITR-RLOC is of a family that the resolver doesn't listen over.
 #[derive(Clone, Copy)]
 struct Redirected {
     nonce: u64,
@@ -19,7 +19,7 @@ struct Redirected {
     reachable: Locator,
 }
 
-/// The requests whose first ITR-RLOC can't be reached.
+/// The recent requests whose first ITR-RLOC the resolver can't reach.
 #[derive(Drop)]
 pub struct ReplyAddresses {
     requests: Vec<Redirected>,
@@ -33,8 +33,8 @@ impl ReplyAddresses {
         }
     }
 
-    /// Remembers a request of these bytes where its first ITR-RLOC isn't of the family of `from`, which alone the
-    /// resolver has, and a later one is. If out of memory, it isn't remembered.
+    /// Remembers a request if its first ITR-RLOC isn't of the family of `from`, and a later one is. The resolver
+    /// listens only over the family of `from`. If out of memory, the request isn't remembered.
     pub fn note(&mut self, from: Locator, bytes: &[u8]) {
         let Ok(request) = read_foreign_request(bytes) else {
             return;
@@ -58,8 +58,8 @@ impl ReplyAddresses {
         });
     }
 
-    /// The ITR-RLOC that a negative Map-Reply of these bytes goes to in place of the first one at this port; None
-    /// where no such request is remembered.
+    /// The ITR-RLOC that a negative Map-Reply goes to instead of `first` at `port`; None if its request isn't
+    /// remembered.
     pub fn instead(&self, first: Locator, port: u16, bytes: &[u8]) -> Option<Locator> {
         let nonce = read_negative_reply(bytes).ok()?.nonce;
         let mut requests = self.requests.as_slice().iter();

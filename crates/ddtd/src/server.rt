@@ -1,87 +1,83 @@
-//! `ddtd serve CONFIG [ADDRESS..]`: a server that runs until it is stopped.
+//! `ddtd serve CONFIG [ADDRESS..]`: the role of a server, a DDT node or a Map-Server.
 
-use crate::bounded::Bounded;
-use crate::clock::Clock;
+use crate::command_line::ServeArgs;
 use crate::configuration::fault_text;
-use crate::control::Told;
+use crate::control_socket::ControlRequest;
 use crate::daemon::{Role, run};
-use crate::end::End;
-use crate::late_addresses::LateAddresses;
-use crate::loading::{
-    Loaded, Summary, load_configuration, load_server_settings, name_text, role_text,
-};
+use crate::exit_status::ExitStatus;
+use crate::file_watch::Watches;
+use crate::input_file::{Message, with_path};
+use crate::loading::{Summary, load_configuration, load_server_settings, name_text};
 use crate::log::{Log, Priority};
+use crate::log_rate_limit::LogRateLimit;
 use crate::poll::Poll;
 use crate::registering::{Registering, registrar_of};
 use crate::registration_file::restore;
 use crate::site_keys::load_keyed_sites;
 use crate::sockets::{ServerWires, Sockets};
-use crate::source::{Why, with_path};
-use crate::times::Moments;
+use crate::system_clock::{Clock, Moments};
+use crate::unbound_locators::UnboundLocators;
 use crate::unknown_keys::UnknownKey;
-use crate::unrecognized::{MOST_MESSAGES, end_period, say_unrecognized};
-use crate::watch::Watches;
-use crate::words::ServeAsked;
+use crate::unrecognized_afi_log::{MOST_MESSAGES, end_period, log_unrecognized};
 use ddt_config::ServerConfig;
-use ddt_daemon::{ControlWord, Counted, CountedAnswers, DaemonStatistics, Door, ServerStatistics};
+use ddt_config::settings::ServerSettings;
+use ddt_daemon::{CountedAnswers, CountedWires, DaemonStatistics, ServerSocket, ServerStatistics};
 use ddt_ecm::CONTROL_PORT;
 use ddt_map_server::MapServer;
 use ddt_node::Server;
-use ddt_path::Locator;
-use ddt_registrar::Registrar;
-use ddt_settings::ServerSettings;
+use ddt_path::{Locator, LocatorSet};
+use ddt_sockets::{MOST_BYTES, ip_of};
 use ddt_text::parse_locator;
 use ddt_trie::HashedMap;
-use ddt_wires::{MOST_BYTES, ip_of};
 use std::alloc::{AllocError, Global};
 use std::io;
 use std::io::ErrorKind;
 
-/// How long it is waited at most for what may come, in milliseconds.
-const PATIENCE: i32 = 1000;
+/// The longest wait for a datagram, in milliseconds.
+const POLL_TIMEOUT_MS: i32 = 1000;
 
-/// How many turns are taken at a socket before the next one has its own.
-const MOST_TURNS: u32 = 64;
+/// The most turns at one socket before the next socket's turn.
+const TURNS_PER_SOCKET: u32 = 64;
 
-/// A server, its file, and what it runs on.
+/// A server with its configuration, sockets and clock.
 #[derive(Drop)]
 pub struct ServerRole<'a> {
-    asked: &'a ServeAsked<'a>,
-    /// The server, with what is registered; nothing ever is where no site has a key.
-    server: MapServer<HashedMap<u32>>,
-    /// What the server's configuration holds.
-    summary: Summary,
-    wires: CountedAnswers<Counted<ServerWires>>,
-    buffer: Vec<u8>,
-    settings: ServerSettings,
-    registering: Registering<'a>,
-    moments: Moments,
-    unrecognized: Bounded,
-    watches: Watches<'a>,
-    late: LateAddresses,
-    /// The second in which a socket was last tried at each locator.
-    second: u64,
+    pub args: &'a ServeArgs<'a>,
+    /// The server with its registrations; without keys it never has any.
+    pub server: MapServer<HashedMap<u32>>,
+    /// The counts and the digest of the configuration.
+    pub summary: Summary,
+    pub wires: CountedAnswers<CountedWires<ServerWires>>,
+    pub buffer: Vec<u8>,
+    pub settings: ServerSettings,
+    pub registering: Registering<'a>,
+    pub moments: Moments,
+    pub unrecognized: LogRateLimit,
+    pub watches: Watches<'a>,
+    pub unbound: UnboundLocators,
+    /// The second of the last check for what changes by itself (`check_each_second`).
+    pub second: u64,
 }
 
-/// Serves the configuration until it is told to stop.
-pub fn serve(rt: &HostRuntime, asked: &ServeAsked<'_>, log: &mut Log) -> End {
-    let role = ServerRole::start(rt, asked, log);
-    run(rt, role, asked.control, log)
+/// Serves the configuration until the command `stop`.
+pub fn serve(rt: &HostRuntime, args: &ServeArgs<'_>, log: &mut Log) -> ExitStatus {
+    let role = ServerRole::start(rt, args, log);
+    run(rt, role, args.control, log)
 }
 
-/// Where it is to serve, by the words: each is a locator of the configuration.
-fn addresses_in(
+/// The addresses to serve at, from the arguments. Each must be a locator of the configuration.
+pub fn addresses_in(
     rt: &HostRuntime,
-    asked: &ServeAsked<'_>,
+    args: &ServeArgs<'_>,
     config: &ServerConfig,
-) -> Result<Vec<Locator>, Why> {
+) -> Result<Vec<Locator>, Message> {
     let mut addresses = Vec::new(rt.alloc());
-    for word in asked.addresses.as_slice() {
+    for word in args.addresses.as_slice() {
         let Ok(address) = parse_locator(word.as_bytes()) else {
             return Err(format!(in rt.alloc(); "{word} is no address"));
         };
         if !config.locators.as_slice().contains(&address) {
-            return Err(format!(in rt.alloc(); "{word} is no locator of {}", asked.config));
+            return Err(format!(in rt.alloc(); "{word} is no locator of {}", args.config));
         }
         if addresses.push(address).is_err() {
             return Err(Err(AllocError));
@@ -90,24 +86,24 @@ fn addresses_in(
     Ok(addresses)
 }
 
-/// Where it may serve: at these addresses, or, where there are none, at all locators of the configuration.
-fn places_of<'a>(given: &'a [Locator], config: &'a ServerConfig) -> &'a [Locator] {
+/// The locators to serve at: those given, or if there are none, all locators of the group.
+pub fn locators_served<'a>(given: &'a [Locator], own: &'a LocatorSet) -> &'a [Locator] {
     if given.is_empty() {
-        config.locators.as_slice()
+        own.as_slice()
     } else {
         given
     }
 }
 
-/// Binds a socket at each address, or, where they aren't chosen, at each that is this machine's. The sockets that are
-/// bound already stay.
-fn bind_all(
+/// Binds a socket at each address that has none. If no addresses were chosen, those that aren't this machine's are
+/// skipped; at least one must be bound.
+pub fn bind_locators(
     rt: &HostRuntime,
-    asked: &ServeAsked<'_>,
+    args: &ServeArgs<'_>,
     addresses: &[Locator],
     sockets: &mut Sockets,
-) -> Result<(), Why> {
-    let is_chosen = !asked.addresses.is_empty();
+) -> Result<(), Message> {
+    let is_chosen = !args.addresses.is_empty();
     for address in addresses {
         match bind(rt, *address, sockets) {
             Err(error) if !is_chosen && error.kind() == ErrorKind::AddrNotAvailable => {}
@@ -116,13 +112,13 @@ fn bind_all(
         }
     }
     if !addresses.iter().any(|address| sockets.has(*address)) {
-        return Err(no_place_text(rt, asked.config, addresses));
+        return Err(no_place_text(rt, args.config, addresses));
     }
     Ok(())
 }
 
-/// That none of a configuration's locators is an address of this machine.
-fn no_place_text(rt: &HostRuntime, path: &str, locators: &[Locator]) -> Why {
+/// The message that no locator of a configuration is an address of this machine.
+fn no_place_text(rt: &HostRuntime, path: &str, locators: &[Locator]) -> Message {
     let mut text = format!(in rt.alloc(); "{path}: no locator is this machine's:")?;
     for locator in locators {
         text.push_str(&format!(in rt.alloc(); " {}", ip_of(*locator))?)?;
@@ -130,8 +126,8 @@ fn no_place_text(rt: &HostRuntime, path: &str, locators: &[Locator]) -> Why {
     Ok(text)
 }
 
-/// Says in the log which keys of the file nothing reads.
-fn say_unknown(rt: &HostRuntime, path: &str, unknown: &[UnknownKey], log: &mut Log) {
+/// Logs the unknown keys of the configuration.
+pub fn log_unknown_keys(rt: &HostRuntime, path: &str, unknown: &[UnknownKey], log: &mut Log) {
     for key in unknown {
         log.say(
             rt,
@@ -141,6 +137,7 @@ fn say_unknown(rt: &HostRuntime, path: &str, unknown: &[UnknownKey], log: &mut L
     }
 }
 
+/// Binds a socket at an address. Refuses a wildcard.
 fn bind(rt: &HostRuntime, address: Locator, sockets: &mut Sockets) -> io::Result<()> {
     if ip_of(address).is_unspecified() {
         return Err(ErrorKind::InvalidInput.into());
@@ -148,18 +145,18 @@ fn bind(rt: &HostRuntime, address: Locator, sockets: &mut Sockets) -> io::Result
     sockets.bind(rt, address)
 }
 
-/// A Map-Server of a configuration, with what was registered before.
+/// A Map-Server of a configuration, with the registrations that its file has.
 fn map_server_of(
     rt: &HostRuntime,
-    asked: &ServeAsked<'_>,
+    args: &ServeArgs<'_>,
     config: ServerConfig,
     clock: Clock,
     log: &mut Log,
-) -> Result<MapServer<HashedMap<u32>>, Why> {
-    let mut sites = load_keyed_sites(rt, asked.keys, &config)?;
-    let unread = restore(rt, asked.registrations, sites.as_mut_slice(), clock)?;
+) -> Result<MapServer<HashedMap<u32>>, Message> {
+    let mut sites = load_keyed_sites(rt, args.keys, &config)?;
+    let unread = restore(rt, args.registrations, sites.as_mut_slice(), clock)?;
     if unread > 0 {
-        let path = asked.registrations.unwrap_or("");
+        let path = args.registrations.unwrap_or("");
         let line = format!(in rt.alloc(); "{path}: {unread} lines are not of its form");
         log.say(rt, Priority::Warning, line);
     }
@@ -168,7 +165,7 @@ fn map_server_of(
         Ok(server) => server,
         Err(fault) => {
             let text = fault_text(rt.alloc(), "", fault);
-            return Err(with_path(rt, asked.config, text));
+            return Err(with_path(rt, args.config, text));
         }
     };
     let Ok(mut server) = MapServer::new(rt.alloc(), server, registrar) else {
@@ -180,11 +177,11 @@ fn map_server_of(
     }
 }
 
-/// Watches over the files that a server is asked to watch.
-fn watches_of<'a>(rt: &HostRuntime, asked: &ServeAsked<'a>) -> Result<Watches<'a>, Why> {
+/// The files to watch, if the server is to watch any.
+fn watches_of<'a>(rt: &HostRuntime, args: &ServeArgs<'a>) -> Result<Watches<'a>, Message> {
     let mut watches = Watches::new(rt.alloc());
-    if asked.is_watched {
-        let paths = [Some(asked.config), asked.keys, asked.settings];
+    if args.is_watched {
+        let paths = [Some(args.config), args.keys, args.settings];
         for path in paths.into_iter().flatten() {
             watches.add(rt, path).map_err(Err)?;
         }
@@ -193,43 +190,43 @@ fn watches_of<'a>(rt: &HostRuntime, asked: &ServeAsked<'a>) -> Result<Watches<'a
 }
 
 impl<'a> ServerRole<'a> {
-    /// A server of the file's configuration, at its sockets.
+    /// Reads the files, binds the sockets and restores the registrations.
     fn start(
         rt: &HostRuntime,
-        asked: &'a ServeAsked<'a>,
+        args: &'a ServeArgs<'a>,
         log: &mut Log,
-    ) -> Result<ServerRole<'a>, Why> {
-        let watches = watches_of(rt, asked)?;
-        let settings = load_server_settings(rt, asked.settings)?;
-        let loaded = load_configuration(rt, asked.config)?;
-        say_unknown(rt, asked.config, loaded.unknown.as_slice(), log);
+    ) -> Result<ServerRole<'a>, Message> {
+        let watches = watches_of(rt, args)?;
+        let settings = load_server_settings(rt, args.settings)?;
+        let loaded = load_configuration(rt, args.config)?;
+        log_unknown_keys(rt, args.config, loaded.unknown.as_slice(), log);
         let Ok(mut moments) = Moments::new(rt) else {
             return Err(format!(in rt.alloc(); "the system tells no time"));
         };
         let clock = Clock::now(rt, &mut moments);
-        let addresses = addresses_in(rt, asked, &loaded.config)?;
-        let mut sockets = Sockets::new(rt.alloc(), CONTROL_PORT).shared(asked.is_shared);
-        let places = places_of(&addresses, &loaded.config);
-        bind_all(rt, asked, places, &mut sockets)?;
+        let addresses = addresses_in(rt, args, &loaded.config)?;
+        let mut sockets = Sockets::new(rt.alloc(), CONTROL_PORT).shared(args.is_shared);
+        let places = locators_served(&addresses, &loaded.config.locators);
+        bind_locators(rt, args, places, &mut sockets)?;
         let summary = loaded.summary;
-        let server = map_server_of(rt, asked, loaded.config, clock, log)?;
+        let server = map_server_of(rt, args, loaded.config, clock, log)?;
         let sites = server.registrar().sites();
-        let registering = Registering::start(rt, asked, sites, clock)?;
+        let registering = Registering::start(rt, args, sites, clock)?;
         let Ok(buffer) = Vec::from_elem(rt.alloc(), 0u8, MOST_BYTES) else {
             return Err(Err(AllocError));
         };
         Ok(ServerRole {
-            asked,
+            args,
             server,
             summary,
-            wires: CountedAnswers::new(Counted::new(ServerWires { sockets })),
+            wires: CountedAnswers::new(CountedWires::new(ServerWires { sockets })),
             buffer,
             settings,
             registering,
             moments,
-            unrecognized: Bounded::new(),
+            unrecognized: LogRateLimit::new(),
             watches,
-            late: LateAddresses::new(rt.alloc()),
+            unbound: UnboundLocators::new(rt.alloc()),
             second: clock.moment / 1000,
         })
     }
@@ -238,38 +235,39 @@ impl<'a> ServerRole<'a> {
         &self.wires.wires.wires.sockets
     }
 
-    /// Looks once a second at what may have changed: which registrations are over, the addresses of this machine, and
-    /// the files, where they are watched; whether one has changed.
-    fn look_around(&mut self, rt: &HostRuntime, clock: Clock, log: &mut Log) -> bool {
+    /// Once a second, ends expired registrations, looks at the watched files, and binds the locators that have no
+    /// socket. Returns whether a watched file has changed.
+    fn check_each_second(&mut self, rt: &HostRuntime, clock: Clock, log: &mut Log) -> bool {
         let second = clock.moment / 1000;
         if second == self.second {
             return false;
         }
         self.second = second;
         self.registering
-            .end(rt, &mut self.server, clock.moment, log);
+            .end_expired(rt, &mut self.server, clock.moment, log);
         if self.watches.have_changed(rt) {
             return true;
         }
-        self.bind_late(rt, log);
+        self.bind_unbound(rt, log);
         false
     }
 
-    /// Serves at each locator of the configuration that has become this machine's, unless it is told where to serve.
-    fn bind_late(&mut self, rt: &HostRuntime, log: &mut Log) {
-        if self.asked.addresses.is_empty() {
-            let locators = self.server.server().config().locators.as_slice();
+    /// Binds a socket at each locator that has none, unless the addresses were chosen.
+    fn bind_unbound(&mut self, rt: &HostRuntime, log: &mut Log) {
+        if self.args.addresses.is_empty() {
+            let locators = self.server.server().locators().as_slice();
             let sockets = &mut self.wires.wires.wires.sockets;
-            self.late.bind(rt, locators, sockets, log);
+            self.unbound.bind(rt, locators, sockets, log);
         }
     }
 
+    /// Serves turns at the socket of a place.
     fn serve_at(&mut self, alloc: Global, place: usize, moment: u64) {
         if self.buffer.len() != MOST_BYTES {
             return;
         }
         if let Some(at) = self.sockets().at(place) {
-            let door = Door {
+            let door = ServerSocket {
                 alloc,
                 at,
                 settings: &self.settings,
@@ -278,14 +276,14 @@ impl<'a> ServerRole<'a> {
                 &mut self.wires,
                 &door,
                 moment,
-                MOST_TURNS,
+                TURNS_PER_SOCKET,
                 self.buffer.as_mut_slice(),
             );
         }
     }
 
-    /// Says in the log which requests were dropped for their AFI.
-    fn say_unrecognized(&mut self, rt: &HostRuntime, log: &mut Log) {
+    /// Logs the requests that were dropped for their AFI.
+    fn log_unrecognized(&mut self, rt: &HostRuntime, log: &mut Log) {
         let said = &mut self.unrecognized;
         said.miss(self.server.done.take_missed_unrecognized());
         end_period(rt, said, self.second.saturating_mul(1000), log);
@@ -293,49 +291,7 @@ impl<'a> ServerRole<'a> {
             let Some(one) = self.server.done.take_unrecognized() else {
                 return;
             };
-            say_unrecognized(rt, said, one, log);
-        }
-    }
-
-    /// Refuses a configuration of another group, or of servers of another kind.
-    fn expect_group(&self, rt: &HostRuntime, config: &ServerConfig) -> Result<(), Why> {
-        let path = self.asked.config;
-        let own = self.server.server().config();
-        if config.name != own.name {
-            let (name, running) = (name_text(&config.name), name_text(&own.name));
-            return Err(format!(in rt.alloc();
-                "{path}: its name is {name}, and {running} is running"
-            ));
-        }
-        if config.role != own.role {
-            let (kind, running) = (role_text(config.role), role_text(own.role));
-            return Err(format!(in rt.alloc();
-                "{path}: its kind is {kind}, and a server of kind {running} is running"
-            ));
-        }
-        Ok(())
-    }
-
-    /// Binds what isn't bound of the places of a configuration, and takes it up.
-    fn take_up_at(
-        &mut self,
-        rt: &HostRuntime,
-        loaded: Loaded,
-        registrar: Registrar<HashedMap<u32>>,
-        addresses: &[Locator],
-    ) -> Result<(), Why> {
-        let places = places_of(addresses, &loaded.config);
-        bind_all(rt, self.asked, places, &mut self.wires.wires.wires.sockets)?;
-        let summary = loaded.summary;
-        match self.server.take_up(rt.alloc(), loaded.config, registrar) {
-            Ok(()) => {
-                self.summary = summary;
-                Ok(())
-            }
-            Err(fault) => {
-                let text = fault_text(rt.alloc(), "", fault);
-                Err(with_path(rt, self.asked.config, text))
-            }
+            log_unrecognized(rt, said, one, log);
         }
     }
 }
@@ -345,11 +301,11 @@ impl<'a> Role for ServerRole<'a> {
         self.sockets().add_to(poll);
     }
 
-    fn patience(&mut self, _rt: &HostRuntime) -> i32 {
-        PATIENCE
+    fn poll_timeout_ms(&mut self, _rt: &HostRuntime) -> i32 {
+        POLL_TIMEOUT_MS
     }
 
-    /// Serves at each socket at which something came.
+    /// Serves each socket that has a datagram.
     fn round(&mut self, rt: &HostRuntime, poll: &Poll, log: &mut Log) -> bool {
         let clock = Clock::now(rt, &mut self.moments);
         for place in 0..self.sockets().len() {
@@ -357,34 +313,14 @@ impl<'a> Role for ServerRole<'a> {
                 self.serve_at(rt.alloc(), place, clock.moment);
             }
         }
-        self.registering.keep(rt, &mut self.server, clock, log);
-        self.say_unrecognized(rt, log);
-        self.look_around(rt, clock, log)
+        self.registering
+            .write_changes(rt, &mut self.server, clock, log);
+        self.log_unrecognized(rt, log);
+        self.check_each_second(rt, clock, log)
     }
 
-    fn take_up(&mut self, rt: &HostRuntime, log: &mut Log) -> Result<(), Why> {
-        let loaded = load_configuration(rt, self.asked.config)?;
-        let settings = load_server_settings(rt, self.asked.settings)?;
-        say_unknown(rt, self.asked.config, loaded.unknown.as_slice(), log);
-        self.expect_group(rt, &loaded.config)?;
-        let addresses = addresses_in(rt, self.asked, &loaded.config)?;
-        let sites = load_keyed_sites(rt, self.asked.keys, &loaded.config)?;
-        let registrar = registrar_of(rt.alloc(), sites)?;
-        let taken = self.take_up_at(rt, loaded, registrar, &addresses);
-        // The sockets are those of the configuration that is in force from now on.
-        let places = places_of(&addresses, self.server.server().config());
-        self.wires.wires.wires.sockets.keep(places);
-        if taken.is_ok() {
-            self.settings = settings;
-            self.late.clear();
-            let sites = self.server.registrar().sites();
-            self.registering.renew(rt, sites, log);
-        }
-        taken
-    }
-
-    fn says(&self, rt: &HostRuntime) -> Why {
-        let name = name_text(&self.server.server().config().name);
+    fn status_text(&self, rt: &HostRuntime) -> Message {
+        let name = name_text(self.server.server().name());
         let mut text = format!(in rt.alloc(); "{name}")?;
         for place in 0..self.sockets().len() {
             if let Some(at) = self.sockets().at(place) {
@@ -393,20 +329,24 @@ impl<'a> Role for ServerRole<'a> {
         }
         text.push_str(&format!(in rt.alloc(); ", {}", self.summary)?)?;
         let sites = self.server.registrar().sites();
-        text.push_str(&self.registering.says(rt.alloc(), sites)?)?;
+        text.push_str(&self.registering.status_text(rt.alloc(), sites)?)?;
         Ok(text)
     }
 
-    /// Says which locators aren't served.
-    fn settle(&mut self, rt: &HostRuntime, log: &mut Log) {
-        self.bind_late(rt, log);
+    fn reload(&mut self, rt: &HostRuntime, log: &mut Log) -> Result<(), Message> {
+        self.reload_configuration(rt, log)
     }
 
-    fn file(&self) -> &'static str {
+    /// Logs which locators aren't served.
+    fn log_warnings(&mut self, rt: &HostRuntime, log: &mut Log) {
+        self.bind_unbound(rt, log);
+    }
+
+    fn source_name(&self) -> &'static str {
         "configuration"
     }
 
-    fn statistics(&self, rt: &HostRuntime, daemon: DaemonStatistics) -> Why {
+    fn statistics(&self, rt: &HostRuntime, daemon: DaemonStatistics) -> Message {
         let holds = self.summary.seal.counts;
         let mut statistics = ServerStatistics {
             daemon,
@@ -419,18 +359,13 @@ impl<'a> Role for ServerRole<'a> {
             sites: u64::from(holds.sites),
         };
         self.registering
-            .set_apart(self.server.counts(), &mut statistics);
+            .correct_counts(self.server.counts(), &mut statistics);
         let mut text = format!(in rt.alloc(); "{statistics}")?;
         text.push_str(&self.registering.statistics(rt.alloc(), &self.server)?)?;
         Ok(text)
     }
 
-    fn answer(&mut self, rt: &HostRuntime, told: &Told, _log: &mut Log) -> Why {
-        if told.word == Some(ControlWord::Sites) {
-            let moment = self.moments.now(rt).millis();
-            let sites = self.server.registrar().sites();
-            return self.registering.answer(rt.alloc(), sites, moment);
-        }
-        format!(in rt.alloc(); "refused: only a resolver knows servers and has a cache\n")
+    fn answer(&mut self, rt: &HostRuntime, request: &ControlRequest, _log: &mut Log) -> Message {
+        self.run_command(rt, request)
     }
 }

@@ -1,27 +1,27 @@
-//! The ETRs of keyed sites, as the log and `sites` say them.
+//! The ETRs of keyed sites in the log and in the answer to `sites`.
 
+use crate::input_file::Message;
 use crate::log::{Log, Priority};
 use crate::registration_text::push_sender;
-use crate::source::Why;
-use crate::tables::{push_locators, text_of};
+use crate::resolver_tables::{push_locators, text_of};
 use ddt_path::LocatorSet;
-use ddt_registrar::{KeyedSite, Ranking, Registration};
+use ddt_registrar::{KeyedSite, RankedEtrs, Registration};
 use ddt_text::{write_locator, write_prefix};
 use std::alloc::{AllocError, Global};
 
-/// The log has the changes of so many sites in a second at most.
+/// The most sites whose changes are logged in a second.
 const MOST_LINES: u32 = 100;
 
-/// The ETRs in force of each keyed site, as the log has them.
+/// The ETRs in force of each keyed site, as last logged.
 #[derive(Drop)]
 pub struct LoggedSites {
     etrs: Vec<LocatorSet>,
 }
 
 impl LoggedSites {
-    /// The log has those of these sites.
+    /// The current ETRs of these sites, as if they were logged.
     pub fn of(alloc: Global, sites: &[KeyedSite]) -> Result<LoggedSites, AllocError> {
-        let mut ranking = Ranking::new(alloc)?;
+        let mut ranking = RankedEtrs::new(alloc)?;
         let mut etrs = Vec::with_capacity(alloc, sites.len())?;
         for site in sites {
             etrs.push(site.etrs_in_force(&mut ranking))?;
@@ -29,23 +29,23 @@ impl LoggedSites {
         Ok(LoggedSites { etrs })
     }
 
-    /// The log has those of no site.
+    /// The ETRs of no sites.
     pub fn none(alloc: Global) -> LoggedSites {
         LoggedSites {
             etrs: Vec::new(alloc),
         }
     }
 
-    /// Says of each site whose ETRs in force are others than the log has which these are; of more than 100 at once only
-    /// how many there are. If out of memory, it is said the next time.
-    pub fn say_changes(&mut self, rt: &HostRuntime, sites: &[KeyedSite], log: &mut Log) {
+    /// Logs the ETRs in force of each site where they have changed; of more than 100 sites at once, only the number of
+    /// the others. If out of memory, they are logged the next time.
+    pub fn log_changes(&mut self, rt: &HostRuntime, sites: &[KeyedSite], log: &mut Log) {
         if self.etrs.len() != sites.len() {
             if let Ok(fresh) = LoggedSites::of(rt.alloc(), sites) {
                 *self = fresh;
             }
             return;
         }
-        let Ok(mut ranking) = Ranking::new(rt.alloc()) else {
+        let Ok(mut ranking) = RankedEtrs::new(rt.alloc()) else {
             return;
         };
         let mut changes = 0u32;
@@ -59,26 +59,26 @@ impl LoggedSites {
                 }
             }
         }
-        say_more(rt, changes.saturating_sub(MOST_LINES), log);
+        log_more(rt, changes.saturating_sub(MOST_LINES), log);
     }
 }
 
-/// Says how many sites have changed of which nothing is said.
-fn say_more(rt: &HostRuntime, changes: u32, log: &mut Log) {
+/// Logs the number of changed sites without a line.
+fn log_more(rt: &HostRuntime, changes: u32, log: &mut Log) {
     if changes > 0 {
         let line = format!(in rt.alloc(); "the ETRs of {changes} more sites have changed");
         log.say(rt, Priority::Notice, line);
     }
 }
 
-/// A site with its ETRs in force.
-fn line_of(alloc: Global, site: &KeyedSite, etrs: LocatorSet) -> Why {
+/// The line of a site with its ETRs in force.
+fn line_of(alloc: Global, site: &KeyedSite, etrs: LocatorSet) -> Message {
     let mut text = Vec::new(alloc);
     push_line(&mut text, site, etrs)?;
     text_of(alloc, &text)
 }
 
-/// Its prefix, whether an xTR has registered it, and its ETRs in force.
+/// Appends a site's prefix, its state, and its ETRs in force.
 fn push_line(text: &mut Vec<u8>, site: &KeyedSite, etrs: LocatorSet) -> Result<(), AllocError> {
     let state = if etrs.as_slice().is_empty() {
         "not registered"
@@ -93,12 +93,14 @@ fn push_line(text: &mut Vec<u8>, site: &KeyedSite, etrs: LocatorSet) -> Result<(
     push_locators(text, etrs.as_slice())
 }
 
-/// Each keyed site, a line each: its prefix, `registered`, `configured` or `not registered`, and its ETRs in force. Each
-/// is followed by its registrations, a line each: from whom, how many seconds are left, and its ETRs with their
-/// priorities. The last line is how many keyed sites there are, and how many are registered.
-pub fn sites_text(alloc: Global, sites: &[KeyedSite], moment: u64) -> Why {
+/// The answer to `sites`: a line for each keyed site, followed by a line for each of its registrations.
+///
+/// A site's line has its prefix, `registered`, `configured` or `not registered`, and its ETRs in force. A
+/// registration's line has the sender, the seconds left, and the ETRs with their priorities. The last line has the
+/// numbers of keyed sites and of registered ones. `moment` is in milliseconds.
+pub fn sites_text(alloc: Global, sites: &[KeyedSite], moment: u64) -> Message {
     let mut text = Vec::new(alloc);
-    let mut ranking = Ranking::new(alloc)?;
+    let mut ranking = RankedEtrs::new(alloc)?;
     let mut registered = 0u64;
     for site in sites {
         push_line(&mut text, site, site.etrs_in_force(&mut ranking))?;
@@ -138,7 +140,7 @@ fn push_etrs(text: &mut Vec<u8>, registration: &Registration) -> Result<(), Allo
     Ok(())
 }
 
-/// How many of these sites are registered.
+/// The number of these sites that are registered.
 pub fn registered_count(sites: &[KeyedSite]) -> u64 {
     sites.iter().filter(|site| is_registered(site)).count() as u64
 }

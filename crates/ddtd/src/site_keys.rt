@@ -1,23 +1,23 @@
-//! The keys under which the ETRs of sites register.
+//! Loading the keys under which the ETRs of sites register.
 
+use crate::input_file::{MOST_KEYS, Message, read_secret, with_path};
 use crate::loading::{name_text, refuse_unknown, table_of, text_of};
-use crate::source::{MOST_KEYS, Why, read_secret, with_path};
-use crate::tables::text_of as bytes_text;
+use crate::resolver_tables::text_of as bytes_text;
 use crate::unknown_keys::unknown_in_keys;
 use ddt_config::ServerConfig;
-use ddt_keys::{KeysFault, SiteKey, keyed_sites, read_keys};
+use ddt_map_server::keys::{KeysFault, SiteKey, keyed_sites, read_keys};
 use ddt_path::{Listed, Prefix};
 use ddt_registrar::KeyedSite;
 use ddt_text::write_prefix;
 use std::alloc::{AllocError, Global};
 use toml::Table;
 
-/// The sites of a configuration that have keys, by the file of keys; none where there is no file.
+/// The sites of a configuration that have keys, from the file of keys; none without a file.
 pub fn load_keyed_sites(
     rt: &HostRuntime,
     path: Option<&str>,
     config: &ServerConfig,
-) -> Result<Vec<KeyedSite>, Why> {
+) -> Result<Vec<KeyedSite>, Message> {
     let Some(path) = path else {
         return Ok(Vec::new(rt.alloc()));
     };
@@ -28,7 +28,7 @@ pub fn load_keyed_sites(
     }
 }
 
-fn sites_of(alloc: Global, bytes: &[u8], config: &ServerConfig) -> Result<Vec<KeyedSite>, Why> {
+fn sites_of(alloc: Global, bytes: &[u8], config: &ServerConfig) -> Result<Vec<KeyedSite>, Message> {
     let text = text_of(alloc, bytes)?;
     let keys = keys_in(alloc, text, &table_of(alloc, text)?)?;
     match keyed_sites(alloc, config, keys.as_slice()) {
@@ -37,8 +37,8 @@ fn sites_of(alloc: Global, bytes: &[u8], config: &ServerConfig) -> Result<Vec<Ke
     }
 }
 
-/// The keys of a text and its table, of which each key is one of a file of keys.
-pub fn keys_in(alloc: Global, text: &str, table: &Table) -> Result<Listed<SiteKey>, Why> {
+/// The keys in a text and its TOML table. Refuses an unknown key of the table.
+pub fn keys_in(alloc: Global, text: &str, table: &Table) -> Result<Listed<SiteKey>, Message> {
     refuse_unknown(alloc, unknown_in_keys(alloc, text, table))?;
     match read_keys(alloc, table) {
         Ok(keys) => Ok(keys),
@@ -46,7 +46,7 @@ pub fn keys_in(alloc: Global, text: &str, table: &Table) -> Result<Listed<SiteKe
     }
 }
 
-/// What is wrong with keys, in words.
+/// The message for a fault of keys.
 fn keys_text(alloc: Global, fault: KeysFault) -> Result<String, AllocError> {
     match fault {
         KeysFault::Toml => format!(in alloc; "{fault}"),
@@ -74,7 +74,7 @@ fn keys_text(alloc: Global, fault: KeysFault) -> Result<String, AllocError> {
     }
 }
 
-/// A prefix as people write it.
+/// A prefix in its text form.
 pub fn prefix_text(alloc: Global, prefix: Prefix) -> Result<String, AllocError> {
     let mut text = Vec::new(alloc);
     write_prefix(&mut text, prefix)?;

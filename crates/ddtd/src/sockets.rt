@@ -1,4 +1,4 @@
-//! The UDP sockets of a daemon, and the wires over them. None waits: what isn't there is waited for by a poll of all.
+//! The UDP sockets of a daemon, and the wires over them. No call waits; the daemon polls all sockets at once.
 
 ghost use Rattle.std.specs.Prelude.{◌≤◌, length, IfOk, IfSome};
 
@@ -8,8 +8,8 @@ use crate::reply_addresses::ReplyAddresses;
 use crate::shared_socket::bind_shared;
 use ddt_ecm::CONTROL_PORT;
 use ddt_path::Locator;
+use ddt_sockets::{NetFault, Packet, Wires, ip_of, locator_of};
 use ddt_wire::MessageType;
-use ddt_wires::{NetFault, Packet, Wires, ip_of, locator_of};
 use std::alloc::Global;
 use std::io;
 use std::io::ErrorKind;
@@ -34,7 +34,7 @@ impl Bound {
         Ok(Bound { at, socket })
     }
 
-    /// A datagram that is there.
+    /// The next datagram; None if there is none now.
     fn receive(&self, buffer: &mut [u8]) -> Result<Option<Packet>, NetFault>
         ensures fits { IfOk result (λ answer. IfSome answer (λ packet. packet.len ≤ length buffer.new)) }
     {
@@ -57,19 +57,19 @@ impl Bound {
     }
 }
 
-/// Sockets, each at an address of its own.
+/// UDP sockets, each bound to another address.
 #[derive(Drop)]
 pub struct Sockets {
     bound: Vec<Bound>,
     port: u16,
     /// Whether other processes may bind sockets to the same addresses.
     is_shared: bool,
-    /// The place that was looked at last.
+    /// The place of the socket that was read last.
     last: usize,
 }
 
 impl Sockets {
-    /// No socket yet. Those that are bound get this port, or with 0 one of the system's choice.
+    /// No sockets yet. Each that is bound later gets this port, or with 0 a port of the system's choice.
     pub fn new(alloc: Global, port: u16) -> Sockets {
         Sockets {
             bound: Vec::new(alloc),
@@ -79,13 +79,13 @@ impl Sockets {
         }
     }
 
-    /// The same, where other processes may bind sockets to the same addresses if this is so.
+    /// The same, and whether other processes may bind sockets to the same addresses.
     pub fn shared(mut self, is_shared: bool) -> Sockets {
         self.is_shared = is_shared;
         self
     }
 
-    /// Binds a socket to an address, if it has none. Refused as the system refuses it, or if out of memory.
+    /// Binds a socket to an address, if it has none. Fails if the system refuses it, or if out of memory.
     pub fn bind<N: Net>(&mut self, net: &N, at: Locator) -> io::Result<()> {
         if self.socket_at(at).is_none() {
             let bound = Bound::bind(net, at, self.port, self.is_shared)?;
@@ -94,7 +94,7 @@ impl Sockets {
         Ok(())
     }
 
-    /// Closes each socket whose address isn't one of these.
+    /// Closes each socket whose address isn't in `addresses`.
     pub fn keep(&mut self, addresses: &[Locator]) {
         self.bound.retain(|bound| addresses.contains(&bound.at));
     }
@@ -104,7 +104,7 @@ impl Sockets {
         self.socket_at(at).is_some()
     }
 
-    /// Whether a socket is bound to an address of the family of this one.
+    /// Whether a socket is bound to an address of the same family as `locator`.
     fn has_family_of(&self, locator: Locator) -> bool {
         self.bound
             .as_slice()
@@ -112,7 +112,7 @@ impl Sockets {
             .any(|bound| bound.at.width() == locator.width())
     }
 
-    /// Whether sockets are bound to addresses of two families.
+    /// Whether sockets are bound to addresses of both families.
     fn has_both_families(&self) -> bool {
         let mut widths = self.bound.as_slice().iter().map(|bound| bound.at.width());
         match widths.next() {
@@ -121,7 +121,7 @@ impl Sockets {
         }
     }
 
-    /// How many sockets there are.
+    /// The number of sockets.
     pub fn len(&self) -> usize {
         self.bound.len()
     }
@@ -131,7 +131,7 @@ impl Sockets {
         Some(self.bound.as_slice().get(place)?.at)
     }
 
-    /// Has all sockets waited for, in their order.
+    /// Adds all sockets to the poll, in their order.
     pub fn add_to(&self, poll: &mut Poll) {
         for bound in self.bound.as_slice() {
             poll.add(&bound.socket);
@@ -142,7 +142,7 @@ impl Sockets {
         self.bound.as_slice().iter().find(|b| b.at == at)
     }
 
-    /// A datagram that is at the socket of an address.
+    /// The next datagram at the socket of an address.
     fn receive_at(&self, at: Locator, buffer: &mut [u8]) -> Result<Option<Packet>, NetFault>
         ensures fits { IfOk result (λ answer. IfSome answer (λ packet. packet.len ≤ length buffer.new)) }
     {
@@ -152,7 +152,7 @@ impl Sockets {
         }
     }
 
-    /// A datagram that is at one of the sockets. They take turns.
+    /// The next datagram at any socket. The sockets take turns.
     fn receive_any(&mut self, buffer: &mut [u8]) -> Result<Option<Packet>, NetFault>
         ensures fits { IfOk result (λ answer. IfSome answer (λ packet. packet.len ≤ length buffer.new)) }
     {
@@ -165,7 +165,7 @@ impl Sockets {
         Ok(None)
     }
 
-    /// A datagram that is at the socket after the one that was looked at last.
+    /// The next datagram at the socket after the one that was read last.
     fn receive_next(&mut self, buffer: &mut [u8]) -> Result<Option<Packet>, NetFault>
         ensures fits { IfOk result (λ answer. IfSome answer (λ packet. packet.len ≤ length buffer.new)) }
     {
@@ -177,7 +177,8 @@ impl Sockets {
         }
     }
 
-    /// Sends a datagram from the socket of an address, or, to another family, from the first socket of that.
+    /// Sends a datagram from the socket of an address. To an address of the other family, sends it from the first
+    /// socket of that family.
     fn send_from(&self, at: Locator, to: Locator, port: u16, bytes: &[u8]) -> Result<(), NetFault> {
         if at.width() != to.width() {
             return self.send_any(to, port, bytes);
@@ -188,7 +189,7 @@ impl Sockets {
         }
     }
 
-    /// Sends a datagram from the first socket of its family.
+    /// Sends a datagram from the first socket of the destination's family.
     fn send_any(&self, to: Locator, port: u16, bytes: &[u8]) -> Result<(), NetFault> {
         let mut sockets = self.bound.as_slice().iter();
         match sockets.find(|bound| bound.at.width() == to.width()) {
@@ -198,19 +199,19 @@ impl Sockets {
     }
 }
 
-/// How many datagrams are dropped at once.
+/// The most datagrams dropped in a round.
 const MOST_DRAINED: u32 = 64;
 
-/// So many datagrams a resolver takes in a row at most where it listens, if some are where it asks. They are few, so
-/// that the replies that have come are remembered before the next lookup begins, which then asks for less.
+/// The most datagrams in a row from the listening sockets while the asking sockets have some. It is small, so that
+/// replies are cached before the next lookup begins, which then sends fewer requests.
 const MOST_REQUESTS: u32 = 4;
 
-/// So many it takes in a row at most where it asks, if some are where it listens: for each request three replies, as of
-/// the root, a node and a Map-Server.
+/// The most datagrams in a row from the asking sockets while the listening sockets have some: three replies for each
+/// request, such as those of the root, a node and a Map-Server.
 const MOST_REPLIES: u32 = 3 * MOST_REQUESTS;
 
-/// The wires of a server: each socket stands for the locator that it is bound to. What a server at an IPv4 socket sends
-/// to an ETR over IPv6, or the other way round, goes out of the first socket of the other family.
+/// The wires of a server: each socket is that of the locator it is bound to. A datagram to an ETR of the other address
+/// family goes out of the first socket of that family.
 #[derive(Drop)]
 pub struct ServerWires {
     pub sockets: Sockets,
@@ -226,32 +227,34 @@ impl Wires for ServerWires {
     }
 }
 
-/// The near wires of a resolver, which all stand for its one address. Only Encapsulated Control Messages come in where
-/// it listens, and only other messages where it asks: there each socket has a port of the system's choice, which a
-/// forger of replies has to guess. Its own requests go out there, and its replies to ITRs where it listens, each from
-/// the socket of its family; where there is none, a reply goes to the first ITR-RLOC of the other family.
+/// The near wires of a resolver, to ITRs and to the servers it asks. All its sockets count as its one address.
+///
+/// The listening sockets take only Encapsulated Control Messages, and send the replies to ITRs. The asking sockets send
+/// the resolver's own requests, and take only other messages; each has a port of the system's choice, which a forger of
+/// replies must guess. A datagram goes out of the socket of its address family. A reply without such a socket goes to
+/// the first ITR-RLOC of the other family.
 #[derive(Drop)]
 pub struct ResolverWires {
-    /// Where ITRs ask, at port 4342.
+    /// The sockets that ITRs send to, at port 4342.
     pub listening: Sockets,
-    /// Where it asks servers.
+    /// The sockets for requests to servers.
     pub asking: Sockets,
-    /// Whether the next datagram is taken where it listens.
+    /// Whether the next datagram comes from the listening sockets.
     listens: bool,
-    /// How many are taken in a row there before it is the other side's turn.
+    /// The number of datagrams left before the other side's turn.
     left: u32,
-    /// Whether something may be where it listens.
+    /// Whether a listening socket may have a datagram.
     is_listening_ready: bool,
-    /// Whether something may be where it asks.
+    /// Whether an asking socket may have a datagram.
     is_asking_ready: bool,
-    /// Where replies go whose own address can't be reached.
+    /// The other addresses of replies whose own address can't be reached.
     reply_addresses: ReplyAddresses,
-    /// How many datagrams were dropped since they weren't of the sort that may come in there.
+    /// The number of datagrams dropped at a socket that doesn't take their kind.
     pub strays: u64,
 }
 
 impl ResolverWires {
-    /// Wires with no socket.
+    /// Wires without sockets.
     pub fn new(alloc: Global) -> ResolverWires {
         ResolverWires {
             listening: Sockets::new(alloc, CONTROL_PORT),
@@ -265,13 +268,13 @@ impl ResolverWires {
         }
     }
 
-    /// Notes on which sides something may be. A side with nothing isn't looked at until the next note.
+    /// Notes which sides may have datagrams. A side without any isn't read until the next note.
     pub fn note_ready(&mut self, is_listening_ready: bool, is_asking_ready: bool) {
         self.is_listening_ready = is_listening_ready;
         self.is_asking_ready = is_asking_ready;
     }
 
-    /// A datagram that is at one of the sockets of a side.
+    /// The next datagram at the sockets of one side.
     fn receive_on(&mut self, listens: bool, buffer: &mut [u8]) -> Result<Option<Packet>, NetFault>
         ensures fits { IfOk result (λ answer. IfSome answer (λ packet. packet.len ≤ length buffer.new)) }
     {
@@ -305,7 +308,7 @@ impl ResolverWires {
         }
     }
 
-    /// It is the other side's turn.
+    /// Passes the turn to the other side.
     fn turn(&mut self) {
         self.listens = !self.listens;
         self.left = if self.listens {
@@ -315,7 +318,7 @@ impl ResolverWires {
         };
     }
 
-    /// A datagram that is at one of the sockets of the side whose turn it is.
+    /// The next datagram at the sockets of the side whose turn it is.
     fn receive_here(&mut self, buffer: &mut [u8]) -> Result<Option<Packet>, NetFault>
         ensures fits { IfOk result (λ answer. IfSome answer (λ packet. packet.len ≤ length buffer.new)) }
     {
@@ -364,14 +367,14 @@ impl Wires for ResolverWires {
     }
 }
 
-/// The far wires of a resolver, by which requests of ITRs go on. What comes in there is dropped.
+/// The far wires of a resolver, which forward requests of ITRs to Map-Servers. Datagrams that arrive there are dropped.
 #[derive(Drop)]
 pub struct FarWires {
     pub sockets: Sockets,
 }
 
 impl FarWires {
-    /// Drops what came, so that it is waited for what comes next.
+    /// Drops the datagrams that have arrived, so that the next poll waits for new ones.
     pub fn drain(&mut self, buffer: &mut [u8]) {
         for _datagram in 0..MOST_DRAINED {
             if let Ok(None) = self.sockets.receive_any(buffer) {

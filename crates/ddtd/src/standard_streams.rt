@@ -1,4 +1,4 @@
-//! Descriptors 0 to 2 are the standard streams, and never those of a socket or a file.
+//! Keeps descriptors 0 to 2 for the standard streams, so that no socket or file gets them.
 
 use libc::net::{POLLNVAL, poll};
 use libc::types::pollfd;
@@ -6,8 +6,8 @@ use std::fs::File;
 use std::io;
 use std::os::fd::IntoRawFd;
 
-/// Opens `/dev/null` at each of the descriptors 0 to 2 that is closed. Else the first sockets would have their numbers,
-/// and the log would go out of a socket. Refused as the system refuses to open it.
+/// Opens `/dev/null` at each closed descriptor of 0 to 2. Otherwise the first sockets would get these numbers, and the
+/// log would be sent from a socket. Fails if the system refuses to open it.
 pub fn open_closed(rt: &HostRuntime) -> io::Result<()> {
     for _stream in 0..3 {
         if are_open() {
@@ -17,7 +17,7 @@ pub fn open_closed(rt: &HostRuntime) -> io::Result<()> {
             .read(true)
             .write(true)
             .open(rt, "/dev/null")?;
-        // It has the lowest number that was free, and is never closed.
+        // It gets the lowest free descriptor, and is never closed.
         let _descriptor = null.into_raw_fd();
     }
     Ok(())

@@ -1,11 +1,11 @@
-//! Keys of a file that nothing reads: mostly a key that is misspelt.
+//! Unknown keys of a TOML file, which are mostly misspelt.
 
 use std::alloc::{AllocError, Global};
 use std::fmt;
 use toml::{Table, Value};
 use toml_parser::dotted_key;
 
-/// At most so many are told of one file.
+/// The most unknown keys reported of one file.
 const MOST_KEYS: usize = 16;
 
 /// The keys at the top of a configuration, those of its seal with them.
@@ -48,12 +48,12 @@ const SITE_KEY: [&str; 8] = [
     "static_etrs",
 ];
 
-/// A key that nothing reads.
+/// An unknown key.
 #[derive(Drop)]
 pub struct UnknownKey {
-    /// The key, behind those of the tables that it is in and a dot each.
+    /// The key, after those of the tables that contain it, with dots between them.
     path: String,
-    /// The first line in which it stands; none where it stands in an inline table.
+    /// The first line that has the key; None for a key in an inline table.
     line: Option<u64>,
 }
 
@@ -66,8 +66,8 @@ impl fmt::Display for UnknownKey {
     }
 }
 
-/// The first 16 keys of a configuration that nothing reads, each once. Those of a Map-Server's authorities hold sites,
-/// and those of a node's children: the other list is such a key.
+/// The first 16 unknown keys of a configuration, each once. The authorities of a Map-Server have sites and those of a
+/// node have children; the other list is an unknown key.
 pub fn unknown_in_configuration(
     alloc: Global,
     text: &str,
@@ -86,7 +86,7 @@ pub fn unknown_in_configuration(
     with_lines(alloc, text, paths)
 }
 
-/// The first 16 keys of a resolver's settings that nothing reads, each once.
+/// The first 16 unknown keys of a resolver's settings, each once.
 pub fn unknown_in_settings(
     alloc: Global,
     text: &str,
@@ -97,7 +97,7 @@ pub fn unknown_in_settings(
     with_lines(alloc, text, paths)
 }
 
-/// The first 16 keys of a server's settings that nothing reads, each once.
+/// The first 16 unknown keys of a server's settings, each once.
 pub fn unknown_in_server_settings(
     alloc: Global,
     text: &str,
@@ -108,7 +108,7 @@ pub fn unknown_in_server_settings(
     with_lines(alloc, text, paths)
 }
 
-/// The first 16 keys of a file of keys that nothing reads, each once.
+/// The first 16 unknown keys of a file of keys, each once.
 pub fn unknown_in_keys(
     alloc: Global,
     text: &str,
@@ -160,7 +160,7 @@ fn add_of_each(
     Ok(())
 }
 
-/// Adds the keys of one table that aren't known.
+/// Adds the keys of one table that aren't in `known`.
 fn add_unknown(
     paths: &mut Vec<String>,
     inside: &str,
@@ -177,8 +177,8 @@ fn add_unknown(
 
 fn add_path(paths: &mut Vec<String>, inside: &str, key: &str) -> Result<(), AllocError> {
     let path = format!(in *paths.allocator(); "{inside}{key}")?;
-    let is_told = paths.iter().any(|told| told.as_str() == path.as_str());
-    if !is_told && paths.len() < MOST_KEYS {
+    let is_listed = paths.iter().any(|listed| listed.as_str() == path.as_str());
+    if !is_listed && paths.len() < MOST_KEYS {
         paths.push(path)?;
     }
     Ok(())
@@ -198,7 +198,7 @@ fn tables_at<'t>(table: &'t Table, key: &str) -> &'t [Value] {
     }
 }
 
-/// The keys with the lines in which they stand.
+/// The keys with their lines.
 fn with_lines(
     alloc: Global,
     text: &str,
@@ -230,7 +230,7 @@ fn find_lines(alloc: Global, text: &str, unknown: &mut [UnknownKey]) -> Result<(
     Ok(())
 }
 
-/// Notes the line of the keys in whose path it stands, where they have none yet.
+/// Notes the line of each key that it belongs to, if the key has no line yet.
 fn note(unknown: &mut [UnknownKey], path: &str, number: u64) {
     for key in unknown {
         let is_here = match path.strip_prefix(key.path.as_str()) {
@@ -243,14 +243,14 @@ fn note(unknown: &mut [UnknownKey], path: &str, number: u64) {
     }
 }
 
-/// The keys of the header that a line is.
+/// The dotted key of a table header; None if the line is no header.
 fn header_on(alloc: Global, line: &str) -> Option<String> {
     let inside = line.strip_prefix('[')?;
     let inside = inside.strip_prefix('[').unwrap_or(inside);
     key_on(alloc, inside.trim_start(), b']')
 }
 
-/// The keys at the front of a line, with dots between them, where this follows.
+/// The dotted key at the front of a line, if the byte `end` follows it.
 fn key_on(alloc: Global, line: &str, end: u8) -> Option<String> {
     let (key, rest) = dotted_key(alloc, line).ok()?;
     if rest.as_bytes().first() != Some(&end) {

@@ -1,13 +1,13 @@
 //! `ddtplan export oor REGISTER GROUP`: a group's configuration as openoverlayrouter reads it.
 
-use crate::inputs::{Why, accepted_at, no_memory, print};
+use crate::inputs::{Failure, accepted_at, no_memory, print};
 use ddt_compile::compile_group;
-use ddt_export::oor_text;
+use ddt_deploy::export::oor_text;
 use ddt_path::Name;
-use ddt_plan_commands::{End, ExportAsked};
+use ddt_plan_commands::{ExitStatus, ExportAsked};
 
 /// Prints the configuration. Refused where the register has no such group.
-pub fn export(rt: &HostRuntime, asked: &ExportAsked<'_>) -> Result<End, Why> {
+pub fn export(rt: &HostRuntime, asked: &ExportAsked<'_>) -> Result<ExitStatus, Failure> {
     let accepted = accepted_at(rt, asked.register)?;
     let Some(name) = Name::of(asked.group.as_bytes()) else {
         return Err(format!(in rt.alloc(); "no such group"));
@@ -18,9 +18,9 @@ pub fn export(rt: &HostRuntime, asked: &ExportAsked<'_>) -> Result<End, Why> {
     };
     let file = oor_text(rt.alloc(), &config).map_err(no_memory)?;
     let end = if file.is_complete {
-        End::Answered
+        ExitStatus::Answered
     } else {
-        End::Different
+        ExitStatus::Different
     };
     Ok(print(rt, &file.text, end))
 }

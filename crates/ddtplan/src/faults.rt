@@ -1,20 +1,22 @@
 //! `ddtplan faults FILE`: every fault of a register's file.
 
-use crate::cut::{Old, told_cut};
-use crate::inputs::{Why, accepted_in, bytes_at, no_memory, print};
+use crate::inputs::{Failure, accepted_in, bytes_at, no_memory, print};
+use crate::truncation::{Old, truncation};
 use ddt_check::{Accepted, Rule};
-use ddt_faults::broken_rules;
 use ddt_path::Prefix;
-use ddt_plan_commands::{End, FaultsAsked};
+use ddt_plan_commands::{ExitStatus, FaultsAsked};
 use ddt_register::{ReadFault, Register, read_register};
-use ddt_sheets::{About, BrokenRule, FaultLine, Standing, told_faults, told_text};
+use ddt_review::faults::broken_rules;
+use ddt_review::sheets::{
+    BrokenRule, FaultKind, FaultLine, FaultScope, fault_lines_text, file_faults,
+};
+use ddt_review::warnings::zoneless_sites;
 use ddt_text::write_prefix;
-use ddt_warnings::zoneless_sites;
 use std::alloc::{AllocError, Global};
 use std::collections::{BTreeMap, BTreeSet};
 
 /// Prints a line for each fault of the file at a path, and how many there are.
-pub fn faults(rt: &HostRuntime, asked: &FaultsAsked<'_>) -> Result<End, Why> {
+pub fn faults(rt: &HostRuntime, asked: &FaultsAsked<'_>) -> Result<ExitStatus, Failure> {
     let path = asked.register;
     let bytes = bytes_at(rt, path)?;
     let told = match accepted_in(rt, path, &bytes) {
@@ -22,11 +24,11 @@ pub fn faults(rt: &HostRuntime, asked: &FaultsAsked<'_>) -> Result<End, Why> {
         Ok(_accepted) => Vec::new(rt.alloc()),
         Err(_refused) => faults_beside(rt, asked, &bytes)?,
     };
-    let text = told_text(rt.alloc(), path, &told).map_err(no_memory)?;
+    let text = fault_lines_text(rt.alloc(), path, &told).map_err(no_memory)?;
     let end = if told.is_empty() {
-        End::Answered
+        ExitStatus::Answered
     } else {
-        End::Different
+        ExitStatus::Different
     };
     Ok(print(rt, &text, end))
 }
@@ -36,7 +38,7 @@ fn faults_beside(
     rt: &HostRuntime,
     asked: &FaultsAsked<'_>,
     bytes: &[u8],
-) -> Result<Vec<FaultLine>, Why> {
+) -> Result<Vec<FaultLine>, Failure> {
     let told = faults_in(rt, asked.register, bytes)?;
     let Some(path) = asked.old else {
         return Ok(told);
@@ -51,9 +53,9 @@ fn faults_beside(
 }
 
 /// The faults of bytes that spell no accepted register.
-fn faults_in(rt: &HostRuntime, path: &str, bytes: &[u8]) -> Result<Vec<FaultLine>, Why> {
+fn faults_in(rt: &HostRuntime, path: &str, bytes: &[u8]) -> Result<Vec<FaultLine>, Failure> {
     let alloc = rt.alloc();
-    match told_faults(alloc, bytes, |register| broken_of(alloc, register)) {
+    match file_faults(alloc, bytes, |register| broken_of(alloc, register)) {
         Ok(told) => Ok(told),
         Err(fault) => Err(format!(in alloc; "{path}: unreadable {fault}")),
     }
@@ -79,7 +81,7 @@ fn told_beside(
     old: Old<'_>,
     before: &Accepted,
 ) -> Result<Vec<FaultLine>, AllocError> {
-    let cut = told_cut(alloc, Some(old), bytes)?;
+    let cut = truncation(alloc, Some(old), bytes)?;
     let mut told = match read_register(alloc, bytes) {
         Ok(register) => told_by_zone(alloc, told, old.path, before, &register)?,
         Err(_fault) => told,
@@ -87,13 +89,13 @@ fn told_beside(
     if let Some((line, reason)) = cut {
         let fault = ReadFault::Csv(0);
         told.push(FaultLine {
-            standing: Standing::File,
+            scope: FaultScope::File,
             line,
-            about: About::Reading(fault),
+            about: FaultKind::Reading(fault),
             text: format!(in alloc; "{fault}: {reason}")?,
         })?;
     }
-    told.sort_by_key(|fault| (fault.standing, fault.line))?;
+    told.sort_by_key(|fault| (fault.scope, fault.line))?;
     Ok(told)
 }
 
@@ -141,7 +143,7 @@ fn told_by_zone(
 /// The broken rule of a site that stands in no zone of Map-Servers.
 fn outside(fault: &FaultLine) -> Option<BrokenRule> {
     match fault.about {
-        About::Rule(rule) if rule.rule == Rule::SiteOutside => Some(rule),
+        FaultKind::Rule(rule) if rule.rule == Rule::SiteOutside => Some(rule),
         _ => None,
     }
 }
@@ -188,9 +190,9 @@ fn missing_zone(
     };
     text.push_str(sites.as_str())?;
     Ok(FaultLine {
-        standing: Standing::Record,
+        scope: FaultScope::Record,
         line: lost.line,
-        about: About::Rule(lost.rule),
+        about: FaultKind::Rule(lost.rule),
         text,
     })
 }

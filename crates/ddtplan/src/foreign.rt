@@ -1,17 +1,17 @@
 //! The groups whose servers others run, as the option `--foreign` names them.
 
-use crate::inputs::Why;
+use crate::inputs::Failure;
 use ddt_check::Accepted;
 use ddt_path::{Locator, Name};
 use std::alloc::{AllocError, Global};
 use std::collections::BTreeSet;
 
-/// The groups that words name. Refused where a word is no name, or where none of these registers has a group of it.
+/// Returns the groups that words name. Refused if a word is no name, or if none of these registers has a group of it.
 pub fn foreign_groups(
     rt: &HostRuntime,
     registers: &[&Accepted],
     words: &[&str],
-) -> Result<BTreeSet<Name>, Why> {
+) -> Result<BTreeSet<Name>, Failure> {
     let mut names = BTreeSet::new(rt.alloc());
     for word in words {
         let Some(name) = Name::of(word.as_bytes()) else {
@@ -25,7 +25,7 @@ pub fn foreign_groups(
     Ok(names)
 }
 
-/// Whether one of these registers has a group of this name.
+/// Returns whether one of these registers has a group of this name.
 fn is_named(registers: &[&Accepted], name: Name) -> bool {
     for register in registers {
         if register.group_named(name).is_some() {
@@ -35,7 +35,7 @@ fn is_named(registers: &[&Accepted], name: Name) -> bool {
     false
 }
 
-/// The locators of a register's groups that aren't foreign.
+/// Returns the locators of a register's groups that aren't foreign.
 pub fn our_locators(
     alloc: Global,
     accepted: &Accepted,
@@ -57,7 +57,7 @@ fn push_locators(to: &mut BTreeSet<Locator>, locators: &[Locator]) -> Result<(),
     Ok(())
 }
 
-/// The rows of the zones that foreign groups serve.
+/// Returns the rows of the zones that foreign groups serve.
 pub fn foreign_zones(
     alloc: Global,
     accepted: &Accepted,

@@ -1,11 +1,11 @@
 //! `ddtplan loopback REGISTER`: the register with its servers on the loopback.
 
-use crate::inputs::{Why, accepted_at, no_memory, print};
-use ddt_loopback::{moves_text, register_text, to_loopback};
-use ddt_plan_commands::{End, LoopbackAsked};
+use crate::inputs::{Failure, accepted_at, no_memory, print};
+use ddt_deploy::loopback::{moves_text, register_text, to_loopback};
+use ddt_plan_commands::{ExitStatus, LoopbackAsked};
 
 /// Prints the register, or which address became which.
-pub fn loopback(rt: &HostRuntime, asked: &LoopbackAsked<'_>) -> Result<End, Why> {
+pub fn loopback(rt: &HostRuntime, asked: &LoopbackAsked<'_>) -> Result<ExitStatus, Failure> {
     let accepted = accepted_at(rt, asked.register)?;
     let moved = to_loopback(rt.alloc(), &accepted).map_err(no_memory)?;
     let text = if asked.as_table {
@@ -13,5 +13,5 @@ pub fn loopback(rt: &HostRuntime, asked: &LoopbackAsked<'_>) -> Result<End, Why>
     } else {
         register_text(rt.alloc(), &moved)
     };
-    Ok(print(rt, &text.map_err(no_memory)?, End::Answered))
+    Ok(print(rt, &text.map_err(no_memory)?, ExitStatus::Answered))
 }

@@ -1,34 +1,36 @@
-//! The companion program: its words, and the command that they ask for, over the files, the sockets and the streams of a
-//! process. What a command answers is made by the crates below: `ddt_plan_commands` and those that each module names.
+//! The program `ddtplan`, which reviews registers. It runs the command of its words over the files, the sockets and the
+//! streams of a process. The crates below make the answers: `ddt_plan_commands`, and those that each module names.
+//!
+//! Each command has a file of its name, but `blocks` and `diff` are in this one, and `tree` and `ladder` in `pictures`.
 //! Tests: tests/companion.
 #![tactic(auto)]
 
-mod bar;
-mod cut;
+mod ask;
+mod compile;
 mod export;
 mod faults;
-mod folder;
 mod foreign;
+mod identifiers_of_change;
 mod inputs;
-mod inquiry;
+mod list_progress;
 mod loopback;
-mod organisations;
 mod pictures;
-mod progress;
-mod questions;
+mod probe;
+mod probe_scope;
+mod progress_bar;
 mod report;
 mod rollout;
-mod scope;
 mod seam;
-mod touched;
+mod seams_of_index;
 mod tree_index;
-mod warnings;
+mod truncation;
+mod warn;
 
 use ddt_plan_commands::{
-    Asked, BlocksAsked, DiffAsked, End, SeamAsked, read_asked, run_blocks, run_diff,
+    Asked, BlocksAsked, DiffAsked, ExitStatus, SeamAsked, read_asked, run_blocks, run_diff,
 };
-use inputs::{Why, say, say_why, source_at};
-use progress::Progress;
+use inputs::{Failure, say, say_why, source_at};
+use list_progress::Progress;
 use std::io::{BufWriter, ErrorKind, IsTerminal, Stdout};
 use std::process::ExitCode;
 use std::{env, io};
@@ -37,8 +39,8 @@ fn main(rt: HostRuntime) -> ExitCode {
     ExitCode::from(run_words(&rt).number())
 }
 
-/// Runs the command that the words of the process ask for.
-fn run_words(rt: &HostRuntime) -> End {
+/// Runs the command that the words of the process name.
+fn run_words(rt: &HostRuntime) -> ExitStatus {
     let words = match words_of(rt) {
         Ok(words) => words,
         Err(error) if error.kind() == ErrorKind::OutOfMemory => return refuse(rt, "out of memory"),
@@ -48,21 +50,21 @@ fn run_words(rt: &HostRuntime) -> End {
         Ok(asked) => run_asked(rt, &asked),
         // Help and the version are no mistakes, if they could be printed.
         Err(error) => match error.print(rt) {
-            Ok(()) if !error.use_stderr() => End::Answered,
-            _ => End::Refused,
+            Ok(()) if !error.use_stderr() => ExitStatus::Answered,
+            _ => ExitStatus::Refused,
         },
     }
 }
 
-/// Runs what was asked. Refused where two registers are to be read from standard input.
-fn run_asked(rt: &HostRuntime, asked: &Asked<'_>) -> End {
+/// Runs a command. Refused if two of its registers are standard input.
+fn run_asked(rt: &HostRuntime, asked: &Asked<'_>) -> ExitStatus {
     if reads_input_twice(asked) {
         return refuse(rt, "only one register can be standard input");
     }
     run(rt, asked)
 }
 
-/// Whether both registers of a command are standard input.
+/// Returns whether both registers of a command are standard input.
 fn reads_input_twice(asked: &Asked<'_>) -> bool {
     match asked {
         Asked::Diff(asked) => are_input(asked.before, asked.after),
@@ -80,31 +82,31 @@ fn reads_input_twice(asked: &Asked<'_>) -> bool {
     }
 }
 
-/// Whether both paths are that of standard input.
+/// Returns whether both paths are `-`, standard input.
 fn are_input(one: &str, other: &str) -> bool {
     one == "-" && other == "-"
 }
 
-/// Says why there is no answer.
-fn refuse(rt: &HostRuntime, why: &str) -> End {
+/// Writes the reason why there is no answer to standard error.
+fn refuse(rt: &HostRuntime, why: &str) -> ExitStatus {
     say(rt, why);
-    End::Refused
+    ExitStatus::Refused
 }
 
 /// Runs a command over the files and the streams of the process.
-fn run(rt: &HostRuntime, asked: &Asked<'_>) -> End {
+fn run(rt: &HostRuntime, asked: &Asked<'_>) -> ExitStatus {
     let answered = match asked {
         Asked::Blocks(asked) => return blocks(rt, asked),
         Asked::Diff(asked) => return diff(rt, asked),
         Asked::Seam(asked) => seam::seam(rt, asked),
         Asked::Faults(asked) => faults::faults(rt, asked),
-        Asked::Warn(asked) => warnings::warn(rt, asked),
-        Asked::Compile(asked) => folder::compile(rt, asked),
+        Asked::Warn(asked) => warn::warn(rt, asked),
+        Asked::Compile(asked) => compile::compile(rt, asked),
         Asked::Rollout(asked) => rollout::rollout(rt, asked),
         Asked::Report(asked) => report::report(rt, asked),
         Asked::Loopback(asked) => loopback::loopback(rt, asked),
         Asked::Export(asked) => export::export(rt, asked),
-        Asked::Ask(asked) => questions::ask(rt, asked),
+        Asked::Ask(asked) => ask::ask(rt, asked),
         Asked::Tree(asked) => pictures::tree(rt, asked),
         Asked::Ladder(asked) => pictures::ladder(rt, asked),
     };
@@ -114,15 +116,15 @@ fn run(rt: &HostRuntime, asked: &Asked<'_>) -> End {
     }
 }
 
-/// Says why there is no answer, or that there is no memory to say it.
-fn refuse_for(rt: &HostRuntime, why: Why) -> End {
+/// Writes the reason why there is no answer to standard error; `out of memory` if there is no memory for it.
+fn refuse_for(rt: &HostRuntime, why: Failure) -> ExitStatus {
     match why {
         Ok(why) => refuse(rt, why.as_str()),
         Err(_refused) => refuse(rt, "out of memory"),
     }
 }
 
-/// The process's output, which says on standard error how far a long list is; None if out of memory.
+/// Returns the process's output, which reports the progress of a long list on standard error; None if out of memory.
 fn list_output(rt: &HostRuntime) -> Option<Progress<BufWriter<Stdout>, &HostRuntime>> {
     let out = BufWriter::new(rt.alloc(), rt.stdout()).ok()?;
     let err = rt.stderr();
@@ -130,7 +132,7 @@ fn list_output(rt: &HostRuntime) -> Option<Progress<BufWriter<Stdout>, &HostRunt
     Some(Progress::new(out, rt, err, is_shown))
 }
 
-fn blocks(rt: &HostRuntime, asked: &BlocksAsked<'_>) -> End {
+fn blocks(rt: &HostRuntime, asked: &BlocksAsked<'_>) -> ExitStatus {
     let Some(out) = list_output(rt) else {
         return refuse(rt, "out of memory");
     };
@@ -142,7 +144,7 @@ fn blocks(rt: &HostRuntime, asked: &BlocksAsked<'_>) -> End {
     end
 }
 
-fn diff(rt: &HostRuntime, asked: &DiffAsked<'_>) -> End {
+fn diff(rt: &HostRuntime, asked: &DiffAsked<'_>) -> ExitStatus {
     let Some(out) = list_output(rt) else {
         return refuse(rt, "out of memory");
     };
@@ -154,7 +156,7 @@ fn diff(rt: &HostRuntime, asked: &DiffAsked<'_>) -> End {
     end
 }
 
-/// The words that the process was started with, the program's name first.
+/// Returns the words that the process was started with, the program's name first.
 fn words_of(rt: &HostRuntime) -> io::Result<Vec<String>> {
     Ok(env::args(rt)?.collect(rt.alloc())?)
 }

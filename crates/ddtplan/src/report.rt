@@ -1,12 +1,12 @@
 //! `ddtplan report OLD NEW PAGE`: a page of HTML that shows a change.
 
-use crate::folder::{NAMES, random_mark, write_whole};
-use crate::inputs::{Why, accepted_in, bytes_at, no_memory};
+use crate::compile::{NAMES, random_mark, write_whole};
+use crate::inputs::{Failure, accepted_in, bytes_at, no_memory};
 use crate::rollout::steps_or_reason;
 use ddt_path::Listed;
-use ddt_pictures::change_picture;
 use ddt_plan::Reading;
-use ddt_plan_commands::{DiffAsked, End, Form, ReportAsked, Told, run_diff};
+use ddt_plan_commands::{DiffAsked, DiffOutput, ExitStatus, Form, ReportAsked, run_diff};
+use ddt_report::pictures::change_picture;
 use ddt_report::{Report, report_page};
 use std::alloc::AllocError;
 use std::fs::File;
@@ -14,17 +14,17 @@ use std::io::ErrorKind;
 use std::{fs, io};
 
 /// Writes the page. It is put in the place of what was there once it is whole; where anything fails, that stays.
-pub fn report(rt: &HostRuntime, asked: &ReportAsked<'_>) -> Result<End, Why> {
+pub fn report(rt: &HostRuntime, asked: &ReportAsked<'_>) -> Result<ExitStatus, Failure> {
     let report = report_of(rt, asked)?;
     let page = report_page(rt.alloc(), &report).map_err(no_memory)?;
     match put_in_place(rt, asked.page, &page) {
-        Ok(()) => Ok(End::Answered),
+        Ok(()) => Ok(ExitStatus::Answered),
         Err(error) => Err(format!(in rt.alloc(); "{}: {error}", asked.page)),
     }
 }
 
 /// What the page is made of.
-fn report_of(rt: &HostRuntime, asked: &ReportAsked<'_>) -> Result<Report, Why> {
+fn report_of(rt: &HostRuntime, asked: &ReportAsked<'_>) -> Result<Report, Failure> {
     let alloc = rt.alloc();
     let old = bytes_at(rt, asked.before)?;
     let new = bytes_at(rt, asked.after)?;
@@ -52,25 +52,26 @@ fn changes_of(
     asked: &ReportAsked<'_>,
     old: &[u8],
     new: &[u8],
-) -> Result<Vec<u8>, Why> {
+) -> Result<Vec<u8>, Failure> {
     let alloc = rt.alloc();
     let diff = DiffAsked {
         before: asked.before,
         after: asked.after,
         reading: Reading::Service,
-        told: Told::Changes,
+        output: DiffOutput::Changes,
         form: Form::Text,
     };
     let open_file = |path: &str| Some(if path == asked.before { old } else { new });
     let mut why = Vec::new(alloc);
     let (end, lines) = run_diff(alloc, &diff, open_file, Vec::new(alloc), &mut why);
     match end {
-        End::Answered | End::Different => Ok(lines),
-        End::Refused | End::Unprinted => Err(format!(in alloc; "out of memory")),
+        ExitStatus::Answered | ExitStatus::Different => Ok(lines),
+        ExitStatus::Refused | ExitStatus::Unprinted => Err(format!(in alloc; "out of memory")),
     }
 }
 
-/// Writes a new file beside the path and renames it. What is at the path is replaced, and a link there is never followed.
+/// Writes a new file beside the path and renames it. What is at the path is replaced, and a link there is never
+/// followed.
 fn put_in_place(rt: &HostRuntime, path: &str, page: &[u8]) -> io::Result<()> {
     let (file, beside) = new_beside(rt, path)?;
     let renamed = match write_whole(file, page) {

@@ -1,24 +1,26 @@
 //! `ddtplan rollout OLD NEW`, and `ddtplan compile --from OLD --step N NEW FOLDER`: a change step by step.
 
-use crate::folder::{DiskFolder, failed};
+use crate::compile::{DiskFolder, failed};
 use crate::foreign::foreign_groups;
-use crate::inputs::{Why, accepted_at, no_memory, print};
+use crate::inputs::{Failure, accepted_at, no_memory, print};
 use ddt_check::Accepted;
-use ddt_folder::{
+use ddt_deploy::folders::{
     FileName, Folder, NamedFile, Plan, PublishFault, Step, carry_out, lines_of, read_file,
 };
+use ddt_deploy::rollout::{
+    ConfigFile, RolloutFault, RolloutStep, files_at, rollout_lines, rollout_steps,
+};
 use ddt_path::Listed;
-use ddt_plan_commands::{CompileAsked, End, RolloutAsked, StepAsked};
-use ddt_rollout::{ConfigFile, RolloutFault, RolloutStep, files_at, rollout_lines, rollout_steps};
+use ddt_plan_commands::{CompileAsked, ExitStatus, RolloutAsked, StepAsked};
 use std::alloc::{AllocError, Global};
 
 /// Prints the steps from one register to another.
-pub fn rollout(rt: &HostRuntime, asked: &RolloutAsked<'_>) -> Result<End, Why> {
+pub fn rollout(rt: &HostRuntime, asked: &RolloutAsked<'_>) -> Result<ExitStatus, Failure> {
     let before = accepted_at(rt, asked.before)?;
     let after = accepted_at(rt, asked.after)?;
     let steps = steps_of(rt, &before, &after)?;
     let text = rollout_lines(rt.alloc(), &before, &after, &steps).map_err(no_memory)?;
-    Ok(print(rt, &text, End::Answered))
+    Ok(print(rt, &text, ExitStatus::Answered))
 }
 
 /// The steps from one register to another in lines; where there are none, a line that says why.
@@ -26,7 +28,7 @@ pub fn steps_or_reason(
     rt: &HostRuntime,
     before: &Accepted,
     after: &Accepted,
-) -> Result<Vec<u8>, Why> {
+) -> Result<Vec<u8>, Failure> {
     match rollout_steps(rt.alloc(), before, after) {
         Ok(steps) => rollout_lines(rt.alloc(), before, after, &steps).map_err(no_memory),
         Err(RolloutFault::Memory) => Err(no_memory(AllocError)),
@@ -42,7 +44,7 @@ fn steps_of(
     rt: &HostRuntime,
     before: &Accepted,
     after: &Accepted,
-) -> Result<Vec<RolloutStep>, Why> {
+) -> Result<Vec<RolloutStep>, Failure> {
     match rollout_steps(rt.alloc(), before, after) {
         Ok(steps) => Ok(steps),
         Err(fault) => Err(fault_text(rt.alloc(), fault)),
@@ -73,7 +75,7 @@ pub fn compile_step(
     rt: &HostRuntime,
     asked: &CompileAsked<'_>,
     step: &StepAsked<'_>,
-) -> Result<End, Why> {
+) -> Result<ExitStatus, Failure> {
     let mut folder = DiskFolder::open(rt, asked.folder)?;
     let before = accepted_at(rt, step.from)?;
     let after = accepted_at(rt, asked.register)?;
@@ -98,9 +100,9 @@ pub fn compile_step(
 }
 
 /// Prints what was done.
-fn told(rt: &HostRuntime, plan: &Plan) -> Result<End, Why> {
+fn told(rt: &HostRuntime, plan: &Plan) -> Result<ExitStatus, Failure> {
     let text = lines_of(rt.alloc(), plan).map_err(no_memory)?;
-    Ok(print(rt, &text, End::Answered))
+    Ok(print(rt, &text, ExitStatus::Answered))
 }
 
 /// Writes the files that aren't there as they are to be.

@@ -1,7 +1,7 @@
 //! The index of a tree of registers: a CSV file with a row for each group that is run, and the register that it is run
 //! from.
 
-use crate::inputs::{Why, no_memory};
+use crate::inputs::{Failure, no_memory};
 use csv::{ReaderBuilder, StringRecord};
 use ddt_path::Name;
 use std::alloc::{AllocError, Global};
@@ -25,9 +25,9 @@ struct Runners {
     places: BTreeMap<String, usize>,
 }
 
-/// Who runs which groups, in the order in which an index names the registers. Refused where it is no CSV, where its head
-/// is another, where a row has no file or no name of a group, where two rows say the same, and where it has none.
-pub fn runners_in(rt: &HostRuntime, path: &str, bytes: &[u8]) -> Result<Vec<Runner>, Why> {
+/// Who runs which groups, in the order in which an index names the registers. Refused where it is no CSV, where its
+/// head is another, where a row has no file or no name of a group, where two rows say the same, and where it has none.
+pub fn runners_in(rt: &HostRuntime, path: &str, bytes: &[u8]) -> Result<Vec<Runner>, Failure> {
     let mut runners = Runners {
         all: Vec::new(rt.alloc()),
         places: BTreeMap::new(rt.alloc()),
@@ -54,7 +54,7 @@ pub fn runners_in(rt: &HostRuntime, path: &str, bytes: &[u8]) -> Result<Vec<Runn
     Ok(runners.all)
 }
 
-fn refuse_other_head(rt: &HostRuntime, path: &str, record: &StringRecord) -> Result<(), Why> {
+fn refuse_other_head(rt: &HostRuntime, path: &str, record: &StringRecord) -> Result<(), Failure> {
     let [register, group] = HEAD;
     if record.len() == 2 && record.get(0) == Some(register) && record.get(1) == Some(group) {
         return Ok(());
@@ -68,7 +68,7 @@ fn add_row(
     path: &str,
     runners: &mut Runners,
     record: &StringRecord,
-) -> Result<(), Why> {
+) -> Result<(), Failure> {
     let line = record.position().map_or(0, |position| position.line());
     let (file, group) = (record.get(0).unwrap_or(""), record.get(1).unwrap_or(""));
     let name = match Name::of(group.as_bytes()) {

@@ -13,8 +13,8 @@ use Rattle.std.proofs.lemmas.Bool.{and_parts, and_from, cond-true, cond-false, f
 use Rattle.std.proofs.lemmas.Option.{none-some, same_Some}
 use Rattle.ddt_trie.specs.PrefixMap.{path_cmp}
 use Rattle.ddt_trie.specs.laws.Entry.{tied, tied_self, tied-true, is_some-None}
-use Rattle.ddt_cache.specs.declared.entry.Entry.{Entry}
-use Rattle.ddt_cache.specs.declared.ends.Ends.{Ends}
+use Rattle.ddt_cache.specs.declared.cache_entry.Entry.{Entry}
+use Rattle.ddt_cache.specs.declared.ends_by_time.Ends.{Ends}
 use Rattle.ddt_cache.specs.Live.{live_at}
 use Rattle.ddt_cache.specs.Saved.{has_room, most_live_entries}
 use Rattle.ddt_cache.specs.Ends.{end_cmp, IsUnlisted, IsNoted, AreNoted}

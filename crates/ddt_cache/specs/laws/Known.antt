@@ -11,7 +11,7 @@ use Rattle.ddt_path.specs.declared.record.ReferralRecord.{ReferralRecord}
 use Rattle.ddt_path.specs.laws.Cover.{take-covered, length-covered}
 use Rattle.ddt_trie.specs.PrefixMap.{IsCovered, IsLongest}
 use Rattle.ddt_trie.specs.laws.Map.{IsLongest-unique}
-use Rattle.ddt_cache.specs.declared.entry.Entry.{Entry}
+use Rattle.ddt_cache.specs.declared.cache_entry.Entry.{Entry}
 use Rattle.ddt_cache.specs.Entry.{is_positive, is_negative, most_minutes, end_of, entry_of, root_entry}
 use Rattle.ddt_cache.specs.Live.{Known, is_live, live_at, known_of, moved, forgotten}
 use Rattle.ddt_cache.specs.Saved.{savable, has_room, is_saved, is_added, stored, names_servers}

@@ -8,7 +8,7 @@ use Rattle.std.proofs.lemmas.Option.{none-some, same_Some}
 use Rattle.ddt_trie.specs.PrefixMap.{path_cmp, IsCovered, IsLongest, IsKept, IsRetained}
 use Rattle.ddt_trie.specs.laws.Map.{IsLongest-unique}
 use Rattle.ddt_trie.specs.laws.Entry.{tied, tied-true, same_keys}
-use Rattle.ddt_cache.specs.declared.entry.Entry.{Entry}
+use Rattle.ddt_cache.specs.declared.cache_entry.Entry.{Entry}
 use Rattle.ddt_cache.specs.Live.{is_live, live_at}
 
 -- what is left of one value

@@ -12,7 +12,7 @@ use Rattle.ddt_path.specs.declared.record.ReferralRecord.{ReferralRecord}
 use Rattle.ddt_trie.specs.PrefixMap.{path_cmp}
 use Rattle.ddt_trie.specs.laws.Map.{found_after_insert}
 use Rattle.ddt_trie.specs.laws.Entry.{tied}
-use Rattle.ddt_cache.specs.declared.entry.Entry.{Entry}
+use Rattle.ddt_cache.specs.declared.cache_entry.Entry.{Entry}
 use Rattle.ddt_cache.specs.Moment.{last_moment, minute}
 use Rattle.ddt_cache.specs.Entry.{is_positive, is_negative, most_minutes, entry_of}
 use Rattle.ddt_cache.specs.Live.{Known, live_at, known_of, nothing_known, moved, forgotten}

@@ -8,7 +8,7 @@ use Rattle.std.proofs.lemmas.Bool.{lt-ltb, ltb-true}
 use Rattle.ddt_trie.specs.PrefixMap.{path_cmp}
 use Rattle.ddt_trie.specs.laws.Entry.{tied}
 use Rattle.ddt_trie.specs.laws.Key.{any_kept}
-use Rattle.ddt_cache.specs.declared.entry.Entry.{Entry}
+use Rattle.ddt_cache.specs.declared.cache_entry.Entry.{Entry}
 use Rattle.ddt_cache.specs.Live.{is_live, live_at}
 use Rattle.ddt_cache.specs.Saved.{has_room, most_live_entries}
 use Rattle.ddt_path.specs.laws.MapSize as size

@@ -20,7 +20,7 @@ prefix z = z.prefix
 abbrev zone_row : Zone → ℕ
 zone_row z = z.row
 
--- whether a prefix stands strictly below the one that is kept
+-- whether a prefix is strictly below the one that is kept
 abbrev pub is_under : Option (List ℕ) → List ℕ → Bool
 is_under top p = option_map_or (is_strictly_below p) top false
 
@@ -68,7 +68,7 @@ module _ (zones : List Zone) (sorted : IsInOrder prefix zone_row zones) where
   up_to : (k i : ℕ) (d : Zone) → k ≤ i → i < length zones → IsUpTo (get_or zones k d).prefix (get_or zones i d).prefix
   up_to k i d le lt = (far prefix zone_row zones sorted k i d le lt).0
 
-  -- the next zone stands below some zone of Map-Servers if and only if it stands below what is kept
+  -- the next zone is below some zone of Map-Servers if and only if it is below what is kept
   pub under_is : (i : ℕ) (top : Option (List ℕ)) (w : Zone) → i < length zones → w ≡ get_or zones i w
       → IsTop zones i top
       → is_under top w.prefix ≡ list_any (λ y. is_ms y.kind && is_strictly_below w.prefix y.prefix) zones

@@ -29,7 +29,7 @@ child_parts r p c e =
     let s = and_parts (is_strictly_below c.prefix p.prefix) (not (list_any (is_between p c) r.zones)) e in
     (s.0, not-true (list_any (is_between p c) r.zones) s.1)
 
--- no zone stands between a zone and the next one
+-- no zone is between a zone and the next one
 none_between : (r : Register) (p c : Zone) (x : List ℕ) → next_zone r (length p.prefix) x ≡ Some c → list_any (is_between p c) r.zones ≡ false
 none_between r p c x e =
     none_of (is_between p c) r.zones (λ y k. false_from_ne_true (is_between p c y) (λ between.
@@ -97,7 +97,7 @@ same_free r p q =
     both_ways (overlaps c.0.prefix q) (kept_apart zone_prefix (is_direct_child r p) r.zones q e c.0 c.1 c.2) (overlaps_front c.0.prefix z.prefix q c.3 o))))
     (λ e. apart_from_kept zone_prefix (is_direct_child r p) r.zones q (λ z k t. kept_apart zone_prefix below r.zones q e z k (child_parts r p z t).0))
 
--- a zone has one parent: of two zones above it the longer would stand between
+-- a zone has one parent: of two zones above it the longer would be between
 no_longer_parent : (r : Register) (a b c : Zone) → IsIn b r.zones → is_direct_child r a c ≡ true → is_direct_child r b c ≡ true → length b.prefix ≤ length a.prefix
 no_longer_parent r a b c k da db =
     let s = child_parts r a c da in

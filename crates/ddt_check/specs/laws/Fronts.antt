@@ -1,4 +1,4 @@
--- Of two prefixes, the one with the lower number stands first.
+-- Of two prefixes, the one with the lower number sorts first.
 use Rattle.std.proofs.Common.{◌≡◌, ◌⊎◌, ℕ, zero, suc, ◌+◌, ◌-◌, ◌*◌, ◌/◌, ◌^◌, ◌<◌, ◌≤◌, true, List, [], ◌∷◌, length, drop, get_or, Ordering, Less, Equal, Greater, refl, sym, ap, subst, ◌∙◌, arith, inl, inr, IsTrue}
 use Rattle.std.specs.Prelude.{◌==◌, ◌&&◌, ◌||◌, nat_le, ⊤}
 use Rattle.std.specs.Ordering.{nat_cmp, is_lt, ordering_then}
@@ -98,7 +98,7 @@ form_before f g h k lt = ap is_lt (forms_cmp f g h k) ∙ parts_before f g h k l
 pub front_of_path : (f : Form) → IsForm f → prefix_front (path f) ≡ form_front f
 front_of_path f h = ap form_front (form_of-path f h)
 
--- of two prefixes, the one with the lower number stands first
+-- of two prefixes, the one with the lower number sorts first
 pub prefixes_by_front : (p q : List ℕ) → is_prefix_path p ≡ true → is_prefix_path q ≡ true
     → prefix_front p < prefix_front q → is_lt (slice_cmp nat_cmp p q) ≡ true
 prefixes_by_front p q i j lt =
@@ -247,7 +247,7 @@ front_done bytes place front all state =
     subst (λ (k : ℕ). front * 256 ^ k + bytes_front k (drop place bytes) ≡ bytes_front 8 bytes) none state.so_far in
     omega arith
 
--- of two names, the one with the lower number stands first
+-- of two names, the one with the lower number sorts first
 pub names_by_front : (a b : List ℕ) → is_name a ≡ true → is_name b ≡ true → name_front a < name_front b
     → is_lt (slice_cmp nat_cmp a b) ≡ true
 names_by_front a b h k lt = bytes_before 8 a b (name_bytes a h) (name_bytes b k) lt

@@ -63,7 +63,7 @@ module _ {A : Type 0} (key : A → List ℕ) (row : A → ℕ) where
           (and_from (nat_lt (row y) (row x)) (is_same_path (key y) (key x)) (lt-ltb (row y) (row x) (omega arith))
           same)
 
-      -- an earlier one of the same key stands before, and the neighbour before has the key too
+      -- an earlier one of the same key sorts before, and the neighbour before has the key too
       earlier-place : (at : ℕ) (d : A) → at < length xs → is_duplicate key row zs (get_or xs at d) ≡ true
           → (j : ℕ) × (j < at) × (is_same_path (key (get_or xs j d)) (key (get_or xs at d)) ≡ true)
       earlier-place at d inside e =

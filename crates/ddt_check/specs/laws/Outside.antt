@@ -1,5 +1,5 @@
 -- The longest zone of a prefix, where each prefix has one zone and none is below one of Map-Servers: the last zone that
--- stands up to the prefix, if it is of Map-Servers and covers it.
+-- sorts at or before the prefix, if it is of Map-Servers and covers it.
 use Rattle.std.proofs.Common.{◌≡◌, ℕ, ◌+◌, ◌<◌, Bool, true, false, not, List, length, get_or, IsPermutation, Option, Some, None, inl, inr, refl, sym, ap, subst, ◌∙◌, arith}
 use Rattle.std.specs.Prelude.{◌&&◌}
 use Rattle.std.specs.List.Sorted.{IsPartitionedBy, IsPartitionPoint}
@@ -64,7 +64,7 @@ module _ (xs : List Zone) (sorted : IsInOrder prefix zone_row xs) (x : List ℕ)
 
   module _ (r : Register) (moved : IsPermutation r.zones xs) (after : ℕ)
       (point : IsPartitionPoint (λ z. is_up_to z ≡ true) (λ z. is_up_to z ≡ false) xs after) where
-    -- a zone that covers the prefix stands before that place
+    -- a zone that covers the prefix sorts before that place
     place_before : (a : Zone) → IsIn a r.zones → covers a.prefix x ≡ true → (d : Zone)
         → (j : ℕ) × (j < after) × (j < length xs) × (a ≡ get_or xs j d)
     place_before a k e d =

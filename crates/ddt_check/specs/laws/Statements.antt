@@ -73,7 +73,7 @@ pub record IsItsGroup (r : Register) (z : Zone) (g : Group) : Type 0 where
 abbrev pub EachZoneHasServers : Register → Type 0
 EachZoneHasServers r = (z : Zone) → Contains r.zones z → (g : Group) × IsItsGroup r z g
 
--- what is called the first locator of a group stands at place 0 of its row
+-- what is called the first locator of a group is at place 0 of its row
 abbrev pub EachGroupHasAFirstLocator : Register → Type 0
 EachGroupHasAFirstLocator r =
     (g : Group) → Contains r.groups g → slice_get g.locators 0 ≡ Some (first_locator g.locators)
@@ -84,7 +84,7 @@ EachLocatorIsOfOneGroup r =
     (y z : Zone) (l : Locator) → IsTrue (lists (locators_of r y.group) l) → IsTrue (lists (locators_of r z.group) l)
     → y.group ≡ z.group
 
--- ---- what an honest server says
+-- ---- what an honest server answers
 
 -- A server of a zone is in charge of what the zone covers, and refers strictly downwards.
 abbrev pub ServersReferDownwards : Register → Type 0

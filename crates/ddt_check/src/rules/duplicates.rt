@@ -6,12 +6,12 @@ ghost use Rattle.ddt_register.specs.Rows.{rise};
 ghost use Rattle.ddt_check.specs.Rules.{IsLeastRow, item_at, is_duplicate};
 ghost use Rattle.ddt_check.specs.Order.{IsInOrder};
 
-use crate::entries::{Entry, is_same};
+use crate::entries::{SortEntry, is_same};
 use crate::keyed::Keyed;
 use crate::rules::lower;
 
-/// Whether an item of an earlier row has the key of the item at a place: its neighbour then has it.
-fn repeats<T: Keyed>(entries: &[Entry<T>], at: usize) -> bool
+/// Whether an item of an earlier row has the same key as the item at a place. The item before it then has that key.
+fn repeats<T: Keyed>(entries: &[SortEntry<T>], at: usize) -> bool
     requires inside { at < length entries.now }
     requires sorted { IsInOrder T.key T.row_of (map (λ e. e.item.now) entries.now) }
     ensures { (all : List T) (d : T) → rise 0 (map T.row_of all) ≡ true
@@ -25,7 +25,7 @@ fn repeats<T: Keyed>(entries: &[Entry<T>], at: usize) -> bool
 }
 
 /// The least row of an item whose key an earlier one has.
-pub fn duplicate<T: Keyed>(entries: &[Entry<T>]) -> Option<u32>
+pub fn duplicate<T: Keyed>(entries: &[SortEntry<T>]) -> Option<u32>
     requires { IsInOrder T.key T.row_of (map (λ e. e.item.now) entries.now) }
     ensures { (all : List T) → rise 0 (map T.row_of all) ≡ true
         → IsPermutation all (map (λ e. e.item.now) entries.now)

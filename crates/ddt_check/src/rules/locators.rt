@@ -1,5 +1,6 @@
-//! The rule on the locators of groups. Their first locators are sorted, then their second ones, and so on, as small
-//! cells in a frame; in each such column a locator is found by halving.
+//! The rule on the locators of groups. If the fingerprints of all locators are different, no two groups share one. Else
+//! the first locators of the groups are sorted, then the second ones, and so on, as small cells in a stack frame. In
+//! each such column a locator is found by binary search.
 
 ghost use Rattle.std.specs.Prelude.{◌≡◌, ◌<◌, ◌≤◌, ℕ, true, nat_lt, IsPermutation, map, drop, length};
 ghost use Rattle.std.specs.List.{list_any};
@@ -13,9 +14,11 @@ ghost use Rattle.ddt_check.specs.Columns.{cell_of, cell_key, slot_of, AreMarked}
 ghost use Rattle.ddt_check.specs.Columns.{first_in as first_of, meets_at, meets_in, is_met, is_wrong_alone as is_wrong_of};
 
 use crate::fault::Rule;
+use crate::rules::fingerprints::are_told_apart;
 use crate::rules::{least_row, lower_of};
 use ddt_path::{Locator, MOST_LOCATORS, are_distinct};
 use ddt_register::Group;
+use std::alloc::Global;
 
 /// A locator as its family and its number.
 fn locator_pair(l: Locator) -> (u8, u128)
@@ -37,8 +40,8 @@ fn column_pair(g: &Group, column: usize) -> (u8, u128)
     }
 }
 
-/// A group's locator in one column as its family and its number, zeros where it has none there; and the group's row.
-/// These are sorted in place of the groups, which stay where they are.
+/// A group's locator in one column as its family and its number, zeros if it has none there; and the group's row. Cells
+/// are sorted in place of the groups, which aren't moved.
 #[derive(Clone, Copy)]
 struct Cell {
     number: u128,
@@ -47,7 +50,7 @@ struct Cell {
 }
 
 impl Cell {
-    /// What the frame of a function holds before the cells of a column are written.
+    /// The value of each cell in a stack frame before the cells of a column are written.
     const EMPTY: Cell = Cell {
         number: 0,
         family: 0,
@@ -91,7 +94,7 @@ impl Cell {
     }
 }
 
-/// How many marks a large frame has. A mark is set where some locator of the column has that slot.
+/// The number of marks in a large stack frame. A mark is set if some locator of the column has that slot.
 const MARKS: usize = 524_288;
 
 /// The slot of a locator's number: the sum of 18 digits of each of its halves.
@@ -101,7 +104,7 @@ fn slot(number: u128) -> usize
     (number % 262_144 + (number >> 64) % 262_144) as usize
 }
 
-/// Sets the marks of a column's locators, and no others. Where there are few marks, or none, a slot may have none.
+/// Sets the marks of a column's locators, and no others. If there are few marks, or none, a slot may be without a mark.
 fn mark_column(marks: &mut [bool], cells: &[Cell])
     ensures { AreMarked marks.new cells.now }
 {
@@ -135,7 +138,7 @@ fn sort_column(cells: &mut [Cell], groups: &[Group], column: usize)
     cells.sort_unstable_by_key(|cell| cell.sort_key());
 }
 
-/// The row of the first group that has a locator in the column, found by halving.
+/// The row of the first group that has a locator in the column, by binary search.
 fn searched(cells: &[Cell], l: Locator) -> Option<u32>
     requires { IsInOrder cell_key (λ c. c.row) cells.now }
     ensures { (r : ARegister) (column : ℕ) → IsPermutation (map (cell_of column) r.groups) cells.now
@@ -149,7 +152,8 @@ fn searched(cells: &[Cell], l: Locator) -> Option<u32>
     None
 }
 
-/// The row of the first group that has a locator in the column. Most locators that none has are told by a mark.
+/// The row of the first group that has a locator in the column. A mark that isn't set answers for most locators that no
+/// group has.
 fn first_in(cells: &[Cell], marks: &[bool], l: Locator) -> Option<u32>
     requires sorted { IsInOrder cell_key (λ c. c.row) cells.now }
     requires marked { AreMarked marks.now cells.now }
@@ -164,7 +168,7 @@ fn first_in(cells: &[Cell], marks: &[bool], l: Locator) -> Option<u32>
     searched(cells, l)
 }
 
-/// Where the first group row that has the locator in the column isn't the group's own, the later of both rows.
+/// The later of the group's row and the first group row that has the locator in the column; None if they are one row.
 fn meeting_row(cells: &[Cell], marks: &[bool], g: &Group, l: Locator) -> Option<u32>
     requires sorted { IsInOrder cell_key (λ c. c.row) cells.now }
     requires marked { AreMarked marks.now cells.now }
@@ -177,7 +181,7 @@ fn meeting_row(cells: &[Cell], marks: &[bool], g: &Group, l: Locator) -> Option<
     }
 }
 
-/// The locators from a place on.
+/// The locators from an index on.
 fn locators_from(locators: &[Locator], place: usize) -> &[Locator]
     ensures { result.now ≡ drop place locators.now }
 {
@@ -188,7 +192,8 @@ fn locators_from(locators: &[Locator], place: usize) -> &[Locator]
     }
 }
 
-/// The least row of those where another group has one of the group's locators, from the column on, in the column.
+/// The least row at which the group shares a locator with another: the group has it in the column or a later one, the
+/// other in the column.
 fn least_meeting(cells: &[Cell], marks: &[bool], column: usize, g: &Group) -> Option<u32>
     requires sorted { IsInOrder cell_key (λ c. c.row) cells.now }
     requires marked { AreMarked marks.now cells.now }
@@ -203,8 +208,8 @@ fn least_meeting(cells: &[Cell], marks: &[bool], column: usize, g: &Group) -> Op
     least
 }
 
-/// The least row of a group that shares a locator with an earlier one, where the one has it in the column, and the
-/// other in the column or behind it.
+/// The least row of a group that shares a locator with an earlier one: one of them has it in the column, the other in
+/// the column or a later one.
 fn shared(cells: &[Cell], marks: &[bool], groups: &[Group], column: usize) -> Option<u32>
     requires sorted { IsInOrder cell_key (λ c. c.row) cells.now }
     requires marked { AreMarked marks.now cells.now }
@@ -257,7 +262,8 @@ fn wrong_by_cells(cells: &mut [Cell], marks: &mut [bool], groups: &[Group]) -> O
     least
 }
 
-/// The same of few groups, by a frame of few cells.
+/// The same for at most 4,096 groups, by cells in a small stack frame.
+#[inline(never)]
 fn wrong_of_few(groups: &[Group]) -> Option<u32>
     requires { length groups.now ≤ 4096 }
     ensures { (r : ARegister) → r.groups ≡ groups.now → IsLeastRow (broken r Rule.Locators) result }
@@ -266,7 +272,7 @@ fn wrong_of_few(groups: &[Group]) -> Option<u32>
     wrong_by_cells(&mut cells[..groups.len()], &mut [], groups)
 }
 
-/// The same of as many groups as a register has at most.
+/// The same for at most 65,535 groups, by cells in a large stack frame.
 #[inline(never)]
 fn wrong_of_many(groups: &[Group]) -> Option<u32>
     requires { length groups.now ≤ 65535 }
@@ -277,14 +283,27 @@ fn wrong_of_many(groups: &[Group]) -> Option<u32>
     wrong_by_cells(&mut cells[..groups.len()], &mut marks, groups)
 }
 
-/// The least row of a group with no locator, more than 8, or one that isn't new.
-pub fn wrong_locators(groups: &[Group]) -> Option<u32>
-    requires { rise 0 (group_rows groups.now) ≡ true }
+/// The same, by the smaller of both stack frames that has a cell for each group.
+fn wrong_by_columns(groups: &[Group]) -> Option<u32>
+    requires { length groups.now ≤ 65535 }
     ensures { (r : ARegister) → r.groups ≡ groups.now → IsLeastRow (broken r Rule.Locators) result }
 {
     if groups.len() <= 4_096 {
         wrong_of_few(groups)
     } else {
         wrong_of_many(groups)
+    }
+}
+
+/// The least row of a group with no locator, more than 8, or one that isn't new. If the fingerprints of all locators
+/// are different, no two groups share one, and no column is sorted.
+pub fn wrong_locators(alloc: Global, groups: &[Group]) -> Option<u32>
+    requires { rise 0 (group_rows groups.now) ≡ true }
+    ensures { (r : ARegister) → r.groups ≡ groups.now → IsLeastRow (broken r Rule.Locators) result }
+{
+    if are_told_apart(alloc, groups) {
+        wrong_alone(groups)
+    } else {
+        wrong_by_columns(groups)
     }
 }

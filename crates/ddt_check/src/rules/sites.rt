@@ -1,5 +1,5 @@
-//! The rules that a site may break. The count of ETRs is looked at in the order of rows. Whether a site is outside is
-//! asked of zones that are sorted by their prefixes, then by their rows.
+//! The rules TooManyEtrs and SiteOutside. The number of ETRs is checked in the order of the rows. Whether a site is
+//! outside is read off zones that are sorted by their prefixes, then by their rows.
 
 ghost use Rattle.std.specs.Prelude.{◌≡◌, ◌==◌, ◌&&◌, ◌||◌, nat_lt, IsPermutation, map};
 ghost use Rattle.std.specs.Ordering.{nat_cmp, is_le};
@@ -13,7 +13,7 @@ ghost use Rattle.ddt_check.specs.Zones.{is_ms as is_ms_of};
 ghost use Rattle.ddt_check.specs.Order.{AreZonesInOrder};
 ghost use Rattle.ddt_check.specs.Sorted.{IsRuleKept};
 
-use crate::entries::Entry;
+use crate::entries::SortEntry;
 use crate::fault::Rule;
 use crate::rules::least_row;
 use ddt_path::{MOST_LOCATORS, Role};
@@ -39,31 +39,31 @@ fn is_right(z: &Zone, s: &Site) -> bool
     z.kind == Role::Ms && z.prefix.covers(s.prefix)
 }
 
-/// Whether a zone stands up to a site's prefix, by their numbers and, where these tie, by their prefixes.
-fn is_up_to_by_front(zone: &Entry<Zone>, site: &Entry<Site>) -> bool
+/// Whether a zone sorts at or before the site's prefix, by their numbers and, if these are equal, by their prefixes.
+fn is_up_to_by_front(zone: &SortEntry<Zone>, site: &SortEntry<Site>) -> bool
     ensures { result ≡ (nat_lt zone.now.front site.now.front || (zone.now.front == site.now.front
         && is_le (slice_cmp nat_cmp zone.now.item.now.prefix site.now.item.now.prefix))) }
 {
     zone.front < site.front || (zone.front == site.front && zone.item.prefix <= site.item.prefix)
 }
 
-/// Whether a zone stands up to a site's prefix.
-fn is_up_to(zone: &Entry<Zone>, site: &Entry<Site>) -> bool
+/// Whether a zone sorts at or before the site's prefix.
+fn is_up_to(zone: &SortEntry<Zone>, site: &SortEntry<Site>) -> bool
     ensures { result ≡ is_le (slice_cmp nat_cmp zone.now.item.now.prefix site.now.item.now.prefix) }
 {
     is_up_to_by_front(zone, site)
 }
 
-/// Whether the longest zone of a site isn't of Map-Servers. Where each prefix has one zone, and none is below one of
-/// Map-Servers, the last zone that stands up to the site's prefix tells.
-fn is_outside(zones: &[Entry<Zone>], s: &Site) -> bool
+/// Whether the longest zone that covers a site isn't one of Map-Servers. It reads the last zone that sorts at or before
+/// the site's prefix. This is right if each prefix has one zone and no zone is below one of Map-Servers.
+fn is_outside(zones: &[SortEntry<Zone>], s: &Site) -> bool
     requires { AreZonesInOrder (map (λ e. e.item.now) zones.now) }
     ensures { (r : ARegister) → IsPermutation r.zones (map (λ e. e.item.now) zones.now)
         → IsRuleKept r Rule.DuplicateZone
         → IsRuleKept r Rule.BelowMapServer
         → result ≡ is_outside_of r s.now }
 {
-    let site = Entry::of(s);
+    let site = SortEntry::of(s);
     let after = zones.partition_point(|zone| is_up_to(zone, &site));
     if after == 0 {
         return true;
@@ -72,7 +72,7 @@ fn is_outside(zones: &[Entry<Zone>], s: &Site) -> bool
 }
 
 /// The least row of a site whose longest covering zone isn't of Map-Servers.
-pub fn outside(sites: &[Site], zones: &[Entry<Zone>]) -> Option<u32>
+pub fn outside(sites: &[Site], zones: &[SortEntry<Zone>]) -> Option<u32>
     requires { AreZonesInOrder (map (λ e. e.item.now) zones.now) }
     ensures { (r : ARegister) → IsPermutation r.sites sites.now
         → IsPermutation r.zones (map (λ e. e.item.now) zones.now)

@@ -1,7 +1,9 @@
-//! The rules that a zone may break. A root is looked for in the order of rows; the other rules see zones that are
-//! sorted by their prefixes, then by their rows.
+//! The rules on zones. A root is searched in the order of the rows. The other rules read zones that are sorted by their
+//! prefixes, then by their rows.
 
-ghost use Rattle.std.specs.Prelude.{◌≡◌, ◌==◌, ◌&&◌, ◌||◌, not, nat_lt, is_some, false, IsTrue, IsPermutation, map};
+ghost use Rattle.std.specs.Prelude.{◌≡◌, ◌<◌, ◌≤◌, ◌==◌, ◌&&◌, ◌||◌, not, nat_lt, is_some, true, false};
+ghost use Rattle.std.specs.Prelude.{IsTrue, IsPermutation, map, length, if◌then◌else◌};
+ghost use Rattle.std.specs.List.Sorted.{IsPartitionPoint};
 ghost use Rattle.std.specs.Ordering.{nat_cmp, is_lt};
 ghost use Rattle.std.specs.Cmp.Lexicographic.{slice_cmp};
 ghost use Rattle.ddt_path.specs.Names.{is_name};
@@ -17,10 +19,10 @@ ghost use Rattle.ddt_check.specs.Order.{AreZonesInOrder, AreGroupsInOrder};
 ghost use Rattle.ddt_check.specs.Zones.{is_ms as is_ms_zone, is_same_role, group_named as group_of_name};
 ghost use Rattle.ddt_check.specs.Sorted.{IsLeastOfZones, IsLeastOfBoth};
 
-use crate::entries::Entry;
+use crate::entries::SortEntry;
 use crate::fault::Rule;
-use crate::fronts::name_front;
 use crate::rules::{lower, lower_if};
+use crate::sort_key_fronts::name_front;
 use ddt_path::{Name, Role};
 use ddt_register::{Group, Register, Zone, first_row};
 
@@ -50,14 +52,14 @@ fn is_wrong_root(register: &Register, z: &Zone) -> bool
     is_root(z) && (z.kind == Role::Ms || is_after_root(register, z))
 }
 
-/// The least row of a root of Map-Servers, or of a root after the first. At most two roots are looked at.
+/// The least row of a root of Map-Servers, or of a root after the first. It reads at most two roots.
 pub fn wrong_root(register: &Register) -> Option<u32>
     ensures { result ≡ first_row_of (λ z. z.row) (is_wrong_root_of register.now) register.now.zones }
 {
     first_row(register.zones.as_slice(), |z| is_wrong_root(register, z))
 }
 
-/// Whether the zone that is kept holds a zone strictly inside it.
+/// Whether a zone is strictly inside the zone `top`.
 fn is_under(top: Option<&Zone>, z: &Zone) -> bool
     ensures { result
         ≡ option_map_or (is_strictly_below z.now.prefix) (option_map (λ y. y.prefix) (option_copied top.entry)) false }
@@ -68,7 +70,7 @@ fn is_under(top: Option<&Zone>, z: &Zone) -> bool
     }
 }
 
-/// Whether the zone that is kept covers a zone.
+/// Whether the zone `top` covers a zone.
 fn is_within(top: Option<&Zone>, z: &Zone) -> bool
     ensures { result
         ≡ option_map_or (λ q. covers q z.now.prefix) (option_map (λ y. y.prefix) (option_copied top.entry)) false }
@@ -79,7 +81,7 @@ fn is_within(top: Option<&Zone>, z: &Zone) -> bool
     }
 }
 
-/// Whether a zone is to be kept: one of Map-Servers that the kept one doesn't cover.
+/// Whether a zone is to replace `top`: a zone of Map-Servers that `top` doesn't cover.
 fn is_top(top: Option<&Zone>, z: &Zone) -> bool
     ensures { result ≡ (is_ms_zone z.now.kind && not (option_map_or (λ q. covers q z.now.prefix)
         (option_map (λ y. y.prefix) (option_copied top.entry)) false)) }
@@ -87,9 +89,9 @@ fn is_top(top: Option<&Zone>, z: &Zone) -> bool
     z.kind == Role::Ms && !is_within(top, z)
 }
 
-/// The least row of a zone strictly below a zone of Map-Servers. What a zone holds follows it in this order, so it is
-/// enough to keep the widest zone of Map-Servers that may still hold what comes.
-pub fn below_map_server(entries: &[Entry<Zone>]) -> Option<u32>
+/// The least row of a zone strictly below a zone of Map-Servers. In this order the zones inside a zone follow it, so it
+/// is enough to remember the widest zone of Map-Servers that may cover the next ones.
+pub fn below_map_server(entries: &[SortEntry<Zone>]) -> Option<u32>
     requires { AreZonesInOrder (map (λ e. e.item.now) entries.now) }
     ensures { IsLeastOfZones (map (λ e. e.item.now) entries.now) Rule.BelowMapServer result }
 {
@@ -107,7 +109,7 @@ pub fn below_map_server(entries: &[Entry<Zone>]) -> Option<u32>
     least
 }
 
-/// A name that is looked for, with the number that settles most comparisons.
+/// A name that is searched, with the first 64 bits of its sort key.
 #[derive(Clone, Copy)]
 struct Sought {
     name: Name,
@@ -128,29 +130,67 @@ impl Sought {
     }
 }
 
-/// Whether a group's name stands before the one that is looked for, by their numbers and, where these tie, themselves.
-fn is_before_by_front(entry: &Entry<Group>, sought: &Sought) -> bool
+/// Whether a group's name sorts before the name searched, by their numbers and, if these are equal, by the names.
+fn is_before_by_front(entry: &SortEntry<Group>, sought: &Sought) -> bool
     ensures { result ≡ (nat_lt entry.now.front sought.now.front || (entry.now.front == sought.now.front
         && is_lt (slice_cmp nat_cmp entry.now.item.now.name sought.now.name))) }
 {
     entry.front < sought.front || (entry.front == sought.front && entry.item.name < sought.name)
 }
 
-/// Whether a group's name stands before the one that is looked for.
-fn is_before(entry: &Entry<Group>, sought: &Sought) -> bool
+/// Whether a group's name sorts before the name searched.
+fn is_before(entry: &SortEntry<Group>, sought: &Sought) -> bool
     ensures { result ≡ is_lt (slice_cmp nat_cmp entry.now.item.now.name sought.now.name) }
 {
     is_before_by_front(entry, sought)
 }
 
+/// `number` if `counts`, else 0. The processor chooses without a branch.
+fn counted(counts: bool, number: usize) -> usize
+    ensures { result ≡ (if counts then number else 0) }
+{
+    if counts { number } else { 0 }
+}
+
+/// The number of entries with a lower front, by binary search. No step branches on what it finds.
+fn lower_fronts(groups: &[SortEntry<Group>], front: u64) -> usize
+    requires { AreGroupsInOrder (map (λ e. e.item.now) groups.now) }
+    ensures bound { result ≤ length groups.now }
+    ensures parted { IsPartitionPoint (λ e. e.front < front) (λ e. front ≤ e.front) groups.now result }
+{
+    let mut base = 0;
+    let mut size = groups.len();
+    while size > 0 {
+        let half = size - size / 2;
+        let middle = base + half - 1;
+        let step = counted(groups[middle].front < front, half);
+        base += step;
+        size /= 2;
+    }
+    base
+}
+
+/// The place of the first group that doesn't sort before a name. The names are read only if the numbers are equal.
+fn place_of(groups: &[SortEntry<Group>], sought: &Sought) -> usize
+    requires { AreGroupsInOrder (map (λ e. e.item.now) groups.now) }
+    ensures { IsPartitionPoint (λ g. is_lt (slice_cmp nat_cmp g.name sought.now.name) ≡ true)
+        (λ g. is_lt (slice_cmp nat_cmp g.name sought.now.name) ≡ false) (map (λ e. e.item.now) groups.now) result }
+{
+    let at = lower_fronts(groups, sought.front);
+    if at < groups.len() && is_before(&groups[at], sought) {
+        return groups.partition_point(|entry| is_before(entry, sought));
+    }
+    at
+}
+
 /// The first group row of a name.
-fn group_named<'a>(groups: &[Entry<'a, Group>], name: Name) -> Option<&'a Group>
+fn group_named<'a>(groups: &[SortEntry<'a, Group>], name: Name) -> Option<&'a Group>
     requires { AreGroupsInOrder (map (λ e. e.item.now) groups.now) }
     ensures { (r : ARegister) → IsPermutation r.groups (map (λ e. e.item.now) groups.now)
         → option_copied result ≡ group_of_name r name }
 {
     let sought = Sought::of(name);
-    let at = groups.partition_point(|entry| is_before(entry, &sought));
+    let at = place_of(groups, &sought);
     if at < groups.len() {
         let group = groups[at].item;
         if group.name == name {
@@ -160,14 +200,14 @@ fn group_named<'a>(groups: &[Entry<'a, Group>], name: Name) -> Option<&'a Group>
     None
 }
 
-/// Whether no row defines a group.
+/// Whether the group has no row.
 fn is_unknown(group: Option<&Group>) -> bool
     ensures { result ≡ not (is_some (option_copied group.entry)) }
 {
     group.is_none()
 }
 
-/// Whether a zone's group is of the other kind; not where no row defines it.
+/// Whether a zone's group is of the other kind; false if the group has no row.
 fn is_of_other_role(group: Option<&Group>, z: &Zone) -> bool
     ensures { result ≡ option_map_or (λ g. not (is_same_role g.kind z.now.kind)) (option_copied group.entry) false }
 {
@@ -185,7 +225,7 @@ pub struct WrongGroups {
 }
 
 /// The least rows of zones of wrong groups. Each zone's group is looked up once.
-pub fn of_wrong_groups(zones: &[Zone], groups: &[Entry<Group>]) -> WrongGroups
+pub fn of_wrong_groups(zones: &[Zone], groups: &[SortEntry<Group>]) -> WrongGroups
     requires { AreGroupsInOrder (map (λ e. e.item.now) groups.now) }
     ensures unknown { IsLeastOfBoth zones.now (map (λ e. e.item.now) groups.now) Rule.UnknownGroup result.unknown }
     ensures role { IsLeastOfBoth zones.now (map (λ e. e.item.now) groups.now) Rule.Role result.role }

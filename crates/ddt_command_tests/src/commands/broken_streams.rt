@@ -4,8 +4,8 @@ use super::harness::{Printed, Source, at_start, bind, campus_file};
 use crate::comparison::{holds, same};
 use crate::words::process;
 use ddt_commands::Status::{BadWords, Refused, Unprinted};
-use ddt_commands::{Status, run};
-use ddt_wires::WiresInMemory;
+use ddt_commands::{Environment, Status, run};
+use ddt_sockets::WiresInMemory;
 use std::alloc::Global;
 use std::io;
 use std::io::Write;
@@ -44,7 +44,7 @@ const LONG: &[&[&str]] = &[
     &["show", "0"],
 ];
 
-/// The files of the campus, but that a named one gives so many reads and then fails.
+/// The files of the campus; the named one fails after `reads` reads.
 #[derive(Clone, Copy)]
 struct Failing<'a> {
     name: &'a str,
@@ -76,18 +76,13 @@ fn run_over<W: Write, E: Write>(
     err: &mut E,
 ) -> Result<Status, Fail> {
     let all = process(alloc, words)?;
-    let mut wires = WiresInMemory::new(alloc, 0);
-    let open_file = |path: &str| files.open(path);
-    Ok(run(
-        alloc,
-        &all,
-        open_file,
-        &mut wires,
-        &mut at_start(),
+    let mut environment = Environment {
+        open_file: |path: &str| files.open(path),
+        wires: WiresInMemory::new(alloc, 0),
+        clock: at_start(),
         bind,
-        out,
-        err,
-    ))
+    };
+    Ok(run(alloc, &all, &mut environment, out, err))
 }
 
 /// The status of these words where each writer has room for eight bytes; and what the writers hold.
@@ -98,7 +93,7 @@ fn run_in_eight(alloc: Global, words: &[&str]) -> Result<(Status, [u8; 8], [u8; 
     Ok((status, out_room, err_room))
 }
 
-/// A writer with room for so many bytes.
+/// A writer with room for `room` bytes.
 #[derive(Drop)]
 struct Short {
     bytes: Vec<u8>,
@@ -118,7 +113,7 @@ impl Write for Short {
     }
 }
 
-/// The status of these words where each stream has room for so many bytes, and what the streams hold.
+/// The status of these words where each stream has room for `room` bytes, and what the streams have.
 fn run_in(alloc: Global, words: &[&str], room: usize) -> Result<(Status, Short, Short), Fail> {
     let (bytes, more) = (Vec::new(alloc), Vec::new(alloc));
     let (mut out, mut err) = (Short { bytes, room }, Short { bytes: more, room });
@@ -133,7 +128,7 @@ fn printed(alloc: Global, files: Failing<'_>, words: &[&str]) -> Result<(Status,
     Ok((status, printed))
 }
 
-/// A stream has just so many bytes of what was to be printed on it, or all where there are fewer.
+/// A stream has the first `room` bytes of what was to be printed on it, or all where there are fewer.
 fn has_front(rt: &impl Abort, stream: &Short, whole: &[u8], room: usize) {
     let front = &whole[..room.min(whole.len())];
     same(rt, &stream.bytes.as_slice(), &front, &room);

@@ -3,51 +3,51 @@
 use super::harness::{End, Printed, at_start, bind, campus_file, compares};
 use crate::words::process;
 use ddt_commands::Status::{Answered, Incomplete, Refused};
+use ddt_commands::command_line::Words;
 use ddt_commands::{
-    Status, read_words, run_answer, run_assign, run_check, run_compile, run_lookup, run_loop,
-    run_replay, run_serve, run_show,
+    Environment, Status, read_words, run_answer, run_assign, run_check, run_compile, run_lookup,
+    run_loop, run_replay, run_serve, run_show,
 };
 use ddt_examples::configurations::ROOT;
 use ddt_examples::replays::INTERLEAVED_LINES;
-use ddt_wires::WiresInMemory;
-use ddt_words::Words;
+use ddt_sockets::WiresInMemory;
 use std::alloc::Global;
 use std::process::Abort;
 use std::test::Fail;
 
 fn serve(alloc: Global, words: &Words<'_>, printed: &mut Printed) -> Status {
-    let mut wires = WiresInMemory::new(alloc, 0);
+    let mut environment = Environment {
+        open_file: campus_file,
+        wires: WiresInMemory::new(alloc, 0),
+        clock: at_start(),
+        bind,
+    };
     let Printed { out, err } = printed;
-    run_serve(alloc, words, campus_file, &mut wires, bind, out, err)
+    run_serve(alloc, words, &mut environment, out, err)
 }
 
 fn loops(alloc: Global, words: &Words<'_>, printed: &mut Printed) -> Status {
-    let mut wires = WiresInMemory::new(alloc, 0);
-    let mut clock = at_start();
-    let Printed { out, err } = printed;
-    run_loop(
-        alloc,
-        words,
-        campus_file,
-        &mut wires,
-        &mut clock,
+    let mut environment = Environment {
+        open_file: campus_file,
+        wires: WiresInMemory::new(alloc, 0),
+        clock: at_start(),
         bind,
-        out,
-        err,
-    )
+    };
+    let Printed { out, err } = printed;
+    run_loop(alloc, words, &mut environment, out, err)
 }
 
 /// Runs the function of the command that the words call.
 fn run_called(alloc: Global, words: &Words<'_>, printed: &mut Printed) -> Option<Status> {
     let Printed { out, err } = printed;
     match words.command() {
-        "answer" => Some(run_answer(alloc, words, campus_file, out, err)),
-        "assign" => Some(run_assign(alloc, words, campus_file, out, err)),
-        "check" => Some(run_check(alloc, words, campus_file, out, err)),
-        "compile" => Some(run_compile(alloc, words, campus_file, out, err)),
-        "lookup" => Some(run_lookup(alloc, words, campus_file, out, err)),
+        "answer" => Some(run_answer(alloc, words, &campus_file, out, err)),
+        "assign" => Some(run_assign(alloc, words, &campus_file, out, err)),
+        "check" => Some(run_check(alloc, words, &campus_file, out, err)),
+        "compile" => Some(run_compile(alloc, words, &campus_file, out, err)),
+        "lookup" => Some(run_lookup(alloc, words, &campus_file, out, err)),
         "loop" => Some(loops(alloc, words, printed)),
-        "replay" => Some(run_replay(alloc, words, campus_file, out, err)),
+        "replay" => Some(run_replay(alloc, words, &campus_file, out, err)),
         "serve" => Some(serve(alloc, words, printed)),
         "show" => Some(run_show(alloc, words, out, err)),
         _ => None,

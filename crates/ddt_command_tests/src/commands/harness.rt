@@ -3,25 +3,25 @@
 use crate::comparison::same;
 use crate::words::process;
 use ddt_cache::Moment;
-use ddt_commands::{Status, run};
+use ddt_commands::{Environment, Status, run};
 use ddt_examples::configurations::EAST;
 use ddt_examples::registers::{CAMPUS, CAMPUS_GROWN};
 use ddt_examples::replays::INTERLEAVED;
 use ddt_examples::{bytes_of, changed};
-use ddt_loop::{Clock, StandingClock};
+use ddt_loop::{Clock, FixedClock};
 use ddt_path::{Listed, Locator};
-use ddt_wires::{Waiting, WiresInMemory};
+use ddt_sockets::{WaitingDatagram, WiresInMemory};
 use std::alloc::Global;
-use std::io;
 use std::io::{ErrorKind, Read, Write};
 use std::process::Abort;
 use std::test::Fail;
+use std::{io, mem};
 
 /// The port at which servers and resolvers hear requests and replies.
 pub const PORT: u16 = 4342;
 
-/// A file, or one that can be opened and not read; or one that gives at most 16 bytes for a read, and fails after so many
-/// reads.
+/// A file; or one that can be opened and not read; or one that gives at most 16 bytes for a read, and fails after a
+/// number of reads.
 #[derive(Clone, Copy, Drop)]
 pub enum Source<'a> {
     Bytes(&'a [u8]),
@@ -63,6 +63,21 @@ impl<'a> Place<'a> {
             unbound: Some(ErrorKind::AddrInUse),
         }
     }
+
+    fn open(&self, path: &str) -> Option<Source<'a>> {
+        if path.as_bytes() == self.name.as_bytes() {
+            Some(self.file)
+        } else {
+            None
+        }
+    }
+
+    fn bind(&self, at: Locator) -> io::Result<()> {
+        match self.unbound {
+            Some(kind) if !self.free.contains(&at) => Err(io::Error::from(kind)),
+            _ => Ok(()),
+        }
+    }
 }
 
 /// The files of the campus, one of each kind; and a register that can't be read.
@@ -83,36 +98,60 @@ pub fn bind(_wires: &mut WiresInMemory, _at: Locator) -> io::Result<()> {
     Ok(())
 }
 
-/// A clock that stands at 0.
-pub fn at_start() -> StandingClock {
-    StandingClock {
+/// A clock that stays at 0.
+pub fn at_start() -> FixedClock {
+    FixedClock {
         at: Moment::at(0).unwrap(),
     }
 }
 
 /// Runs `ddt` with these words at a place, over these wires, this clock and these writers.
-pub fn run_at<C: Clock, W: Write, E: Write>(
+pub fn run_at<C: Clock + Drop, W: Write, E: Write>(
     alloc: Global,
     place: Place<'_>,
     wires: &mut WiresInMemory,
-    clock: &mut C,
+    clock: C,
     words: &[&str],
     out: &mut W,
     err: &mut E,
 ) -> Result<Status, Fail> {
     let all = process(alloc, words)?;
-    let open_file = |path: &str| {
-        if path.as_bytes() == place.name.as_bytes() {
-            Some(place.file)
-        } else {
-            None
-        }
+    let open_file = |path: &str| place.open(path);
+    let bind = |_wires: &mut WiresInMemory, at: Locator| place.bind(at);
+    Ok(run_in(alloc, &all, open_file, wires, clock, bind, out, err))
+}
+
+/// Runs `ddt` in the environment of these parts, and leaves the wires to the caller.
+fn run_in<F, O, C, B, W, E>(
+    alloc: Global,
+    words: &[String],
+    open_file: O,
+    wires: &mut WiresInMemory,
+    clock: C,
+    bind: B,
+    out: &mut W,
+    err: &mut E,
+) -> Status
+where
+    F: Read + Drop,
+    O: Fn(&str) -> Option<F> + Drop,
+    C: Clock + Drop,
+    B: Fn(&mut WiresInMemory, Locator) -> io::Result<()> + Drop,
+    W: Write,
+    E: Write,
+    requires opens { O.IsAlwaysCallable open_file }
+    requires binds { B.IsAlwaysCallable bind }
+{
+    let mut environment = Environment {
+        open_file,
+        wires: WiresInMemory::new(alloc, 0),
+        clock,
+        bind,
     };
-    let bind = |_wires: &mut WiresInMemory, at: Locator| match place.unbound {
-        Some(kind) if !place.free.contains(&at) => Err(io::Error::from(kind)),
-        _ => Ok(()),
-    };
-    Ok(run(alloc, &all, open_file, wires, clock, bind, out, err))
+    mem::swap(wires, &mut environment.wires);
+    let status = run(alloc, words, &mut environment, out, err);
+    mem::swap(wires, &mut environment.wires);
+    status
 }
 
 /// What a command prints on each stream.
@@ -134,12 +173,12 @@ impl Printed {
     }
 
     /// Runs `ddt` with these words at a place, over these wires and this clock, and keeps what it prints.
-    pub fn run<C: Clock>(
+    pub fn run<C: Clock + Drop>(
         &mut self,
         alloc: Global,
         place: Place<'_>,
         wires: &mut WiresInMemory,
-        clock: &mut C,
+        clock: C,
         words: &[&str],
     ) -> Result<Status, Fail> {
         run_at(
@@ -158,12 +197,12 @@ impl Printed {
 pub type End<'a> = (Status, &'a str, &'a str);
 
 /// Runs `ddt` with these words at a place, over these wires and this clock, and compares what comes.
-pub fn ends_at<R: Abort, C: Clock>(
+pub fn ends_at<R: Abort, C: Clock + Drop>(
     rt: &R,
     alloc: Global,
     place: Place<'_>,
     wires: &mut WiresInMemory,
-    clock: &mut C,
+    clock: C,
     words: &[&str],
     want: End<'_>,
 ) -> Result<(), Fail> {
@@ -194,7 +233,7 @@ fn has_text<R: Abort>(rt: &R, words: &[&str], does: &str, text: &[u8], want: &st
     same(rt, &text, &want.as_bytes(), &(words, does));
 }
 
-/// The same at moment 0, where so many calls are made over the wires.
+/// The same at moment 0, where `calls` calls are made over the wires.
 pub fn ends<R: Abort>(
     rt: &R,
     alloc: Global,
@@ -204,8 +243,8 @@ pub fn ends<R: Abort>(
     want: End<'_>,
     calls: usize,
 ) -> Result<(), Fail> {
-    ends_at(rt, alloc, place, wires, &mut at_start(), words, want)?;
-    let told = wires.told().ok_or("no memory")?;
+    ends_at(rt, alloc, place, wires, at_start(), words, want)?;
+    let told = wires.recorded_calls().ok_or("no memory")?;
     same(rt, &told.len(), &calls, &("the calls", words));
     Ok(())
 }
@@ -242,7 +281,7 @@ pub fn add(
     bytes: Vec<u8>,
 ) -> Result<(), Fail> {
     let bytes = Listed::of(bytes);
-    wires.add(Waiting {
+    wires.add(WaitingDatagram {
         at,
         from,
         port,

@@ -11,7 +11,7 @@ use ddt_examples::messages::{ITR_REQUEST, NEGATIVE_REPLY};
 use ddt_examples::registers::CAMPUS;
 use ddt_loop::SteppingClock;
 use ddt_path::Locator;
-use ddt_wires::{Call, WiresInMemory};
+use ddt_sockets::{Call, WiresInMemory};
 use std::alloc::Global;
 use std::io::ErrorKind;
 use std::process::Abort;
@@ -64,7 +64,7 @@ fn answer(alloc: Global, printed: &mut Printed, group: &str, xeid: &str) -> Resu
     let words = ["answer", "register.csv", group, xeid];
     let mut wires = WiresInMemory::new(alloc, 0);
     let place = Place::of_register(CAMPUS);
-    printed.run(alloc, place, &mut wires, &mut at_start(), &words)
+    printed.run(alloc, place, &mut wires, at_start(), &words)
 }
 
 /// Lets these replies wait at the resolver, in their order.
@@ -103,7 +103,7 @@ const TURNS: &[Turns] = &[
     ("20000", Answered, BOTH, 20),
 ];
 
-/// Over these wires so many turns are taken, where the replies wait.
+/// Runs a row's turns over these wires, where the replies wait.
 fn takes<R: Abort>(
     rt: &R,
     alloc: Global,
@@ -136,17 +136,9 @@ fn each_turn_is_used(rt: HostRuntime) -> Result<(), Fail> {
 fn a_lookup_may_end_without_an_outcome(rt: HostRuntime) -> Result<(), Fail> {
     let mut wires = WiresInMemory::new(rt.alloc(), 0);
     let (next, step) = (at_start().at, 1_000);
-    let mut clock = SteppingClock { next, step };
+    let clock = SteppingClock { next, step };
     let want = (Incomplete, "[0]10.1.2.3 gave-up NoReply\n", "");
-    ends_at(
-        &rt,
-        rt.alloc(),
-        campus(),
-        &mut wires,
-        &mut clock,
-        LOOP,
-        want,
-    )
+    ends_at(&rt, rt.alloc(), campus(), &mut wires, clock, LOOP, want)
 }
 
 /// Whether a call sent these bytes from the resolver to the ITR.
@@ -173,7 +165,7 @@ const BOTH_REPLIES: [Reply; 6] = [
     (EAST_TOO, "east", "[0]10.1.4.7", 6),
 ];
 
-/// Lets the ITR's request wait at the resolver, and behind it all these replies.
+/// Lets the ITR's request wait at the resolver, and after it all these replies.
 fn itr_asks(wires: &mut WiresInMemory, alloc: Global) -> Result<(), Fail> {
     let request = message(alloc, ITR_REQUEST)?;
     add(wires, ME, ITR, ITR_PORT, request)?;
@@ -181,9 +173,9 @@ fn itr_asks(wires: &mut WiresInMemory, alloc: Global) -> Result<(), Fail> {
 }
 
 /// How many times the ITR was sent its negative Map-Reply.
-fn times_told(alloc: Global, wires: &WiresInMemory) -> Result<usize, Fail> {
+fn replies_to_itr(alloc: Global, wires: &WiresInMemory) -> Result<usize, Fail> {
     let reply = message(alloc, NEGATIVE_REPLY)?;
-    let calls = wires.told().ok_or("no memory")?;
+    let calls = wires.recorded_calls().ok_or("no memory")?;
     Ok(calls.iter().filter(|call| tells_itr(call, &reply)).count())
 }
 
@@ -191,26 +183,26 @@ fn times_told(alloc: Global, wires: &WiresInMemory) -> Result<usize, Fail> {
 fn has_its_line<R: Abort>(rt: &R, alloc: Global, wires: &mut WiresInMemory) -> Result<(), Fail> {
     let words = ["loop", "register.csv", "[0]10.1.4.7"];
     let line = "[0]10.1.4.7 not-registered [0]10.1.4.0/24 127.0.1.1 127.0.1.2\n";
-    let (want, mut clock) = ((Answered, line, ""), at_start());
-    ends_at(rt, alloc, campus(), wires, &mut clock, &words, want)
+    let (want, clock) = ((Answered, line, ""), at_start());
+    ends_at(rt, alloc, campus(), wires, clock, &words, want)
 }
 
-/// The ITR asks over these wires, and is told once.
-fn is_told<R: Abort>(rt: &R, alloc: Global, wires: &mut WiresInMemory) -> Result<(), Fail> {
+/// The ITR asks over these wires, and gets one reply.
+fn gets_one_reply<R: Abort>(rt: &R, alloc: Global, wires: &mut WiresInMemory) -> Result<(), Fail> {
     itr_asks(wires, alloc)?;
     has_its_line(rt, alloc, wires)?;
-    let told = times_told(alloc, wires)?;
-    same(rt, &told, &1, &"the replies to the ITR");
+    let replies = replies_to_itr(alloc, wires)?;
+    same(rt, &replies, &1, &"the replies to the ITR");
     Ok(())
 }
 
 #[test]
 fn an_itr_gets_its_negative_map_reply(rt: HostRuntime) -> Result<(), Fail> {
     let mut wires = WiresInMemory::new(rt.alloc(), 0);
-    is_told(&rt, rt.alloc(), &mut wires)
+    gets_one_reply(&rt, rt.alloc(), &mut wires)
 }
 
-/// Words, the register, the addresses that are free, why another can't be bound, and what stands in the way first.
+/// Words, the register, the addresses that are free, why another can't be bound, and the line of the refusal.
 type Refused = (
     &'static [&'static str],
     &'static str,

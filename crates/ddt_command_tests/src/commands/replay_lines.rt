@@ -39,7 +39,7 @@ fn plays<R: Abort>(rt: &R, alloc: Global, registers: &[&str], script: &str, line
         alloc,
         &REPLAY,
         registers,
-        open_file,
+        &open_file,
         &mut printed.out,
         &mut printed.err,
     );

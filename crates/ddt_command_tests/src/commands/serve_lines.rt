@@ -6,7 +6,7 @@ use ddt_commands::Status::Answered;
 use ddt_examples::configurations::EAST;
 use ddt_examples::messages::{DDT_REQUEST, EAST_ACKNOWLEDGES};
 use ddt_path::Locator;
-use ddt_wires::{Call, WiresInMemory};
+use ddt_sockets::{Call, WiresInMemory};
 use std::alloc::Global;
 use std::io::ErrorKind;
 use std::process::Abort;
@@ -80,7 +80,7 @@ const TURNS: &[Turns] = &[
     ("100", "received 2 replied 1\n", 102),
 ];
 
-/// Over these wires so many turns are taken, where both datagrams wait.
+/// Runs a row's turns over these wires, where both datagrams wait.
 fn takes<R: Abort>(
     rt: &R,
     alloc: Global,
@@ -141,10 +141,10 @@ fn a_server_counts_what_it_receives_and_replies(rt: HostRuntime) -> Result<(), F
     let mut wires = failing(rt.alloc());
     let row = ("3", "received 2 replied 1\n", 5);
     takes(&rt, rt.alloc(), &mut wires, &row)?;
-    are_sent(&rt, rt.alloc(), wires.told().ok_or("no memory")?)
+    are_sent(&rt, rt.alloc(), wires.recorded_calls().ok_or("no memory")?)
 }
 
-/// Words, the text of the file, if it can be read, the error of a socket, and the first of what stands in their way.
+/// Words, the text of the file, if it can be read, the error of a socket, and the line of the refusal.
 type Refused = (
     &'static [&'static str],
     Option<&'static str>,

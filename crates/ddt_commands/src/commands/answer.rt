@@ -11,27 +11,22 @@ ghost use Rattle.ddt_config.specs.Table.{outline};
 ghost use Rattle.ddt_trie.specs.PrefixMap.{most_entries};
 ghost use Rattle.ddt_wire.specs.Referral.{written};
 ghost use Rattle.ddt_lines.specs.Lines.{ended as as_line};
-ghost use Rattle.ddt_words.specs.Call.{call_of};
-ghost use Rattle.ddt_commands.specs.declared.status.Status.TheVariants.{
-  Refused as IsRefused,
-  BadWords as IsBadWords,
-  Unprinted as IsUnprinted,
-};
-ghost use Rattle.ddt_commands.specs.Answer.{IsAnswerText, IsConfigOfGroup, group_answer};
-ghost use Rattle.ddt_commands.specs.Assign.{bad_xeid, xeid_of};
-ghost use Rattle.ddt_commands.specs.Compile.{IsWhyNoGroup, group_of};
+ghost use Rattle.ddt_commands.specs.CommandLine.Call.{call_of};
+ghost use Rattle.ddt_commands.specs.Commands.Answer.{IsAnswerText, IsConfigOfGroup, group_answer, answer_prints};
+ghost use Rattle.ddt_commands.specs.Commands.Assign.{bad_xeid, xeid_of};
+ghost use Rattle.ddt_commands.specs.Commands.Compile.{IsWhyNoGroup, group_of};
 ghost use Rattle.ddt_commands.specs.Over.{IsTextOver, IsWhyOver, whole};
-ghost use Rattle.ddt_commands.specs.Running.{HasPartOf, HasRefused, HasText, StayApart};
-ghost use Rattle.ddt_commands.specs.Status.{answer_status};
+ghost use Rattle.ddt_commands.specs.Ends.{Ends, streams};
 
+use crate::command_line::{Argument, Declaration, Words};
 use crate::commands::assign::identifier;
 use crate::commands::compile::of_group;
 use crate::lines::Lines;
+use crate::over_register::{OverRegister, lines_over};
 use crate::refusal::{Refusal, WordRefusal};
-use crate::register::{OverRegister, lines_over};
 use crate::resolver::RESOLVER;
 use crate::status::Status;
-use crate::streams::{answer, refuse};
+use crate::streams::print_result;
 use ddt_check::Accepted;
 use ddt_compile::compile_group;
 use ddt_config::ServerConfig;
@@ -39,7 +34,6 @@ use ddt_ecm::write_request;
 use ddt_node::Server;
 use ddt_path::{Name, Xeid};
 use ddt_trie::TrieMap;
-use ddt_words::{Argument, Declaration, Words};
 use std::alloc::{AllocError, Global};
 use std::io::{Read, Write};
 
@@ -52,13 +46,12 @@ pub const WORDS: Declaration<'static> = Declaration {
     ],
 };
 
-/// Prints what the group's server answers to a request of nonce 1, in hexadecimal, or tells why there is no answer:
-/// the identifier, the register, or a group that it doesn't have. `open_file` gives a file, or None where it can't be
-/// opened.
+/// Prints what the group's server answers to a request of nonce 1, in hexadecimal. Refused for the identifier, for the
+/// register, or where it has no such group.
 pub fn run_answer<'a, F, O, P, E>(
     alloc: Global,
     words: &Words<'a>,
-    open_file: O,
+    open_file: &O,
     out: &mut P,
     err: &mut E,
 ) -> Status
@@ -67,25 +60,12 @@ where
     O: Fn(&str) -> Option<F> + Drop,
     P: Write,
     E: Write,
-    requires { O.IsAlwaysCallable open_file }
-    ensures fits { result ≢ IsBadWords }
-    ensures answered { (complete : Bool) → result ≡ answer_status complete → HasText
-        (IsTextOver (FnReturnsAt O.Fn open_file) F.remaining bad_xeid (whole IsAnswerText complete) (call_of words.now))
-        (P.contents out.old) (P.contents out.new) }
-    ensures refused { result ≡ IsRefused → HasRefused
-        (IsWhyOver (FnReturnsAt O.Fn open_file) F.remaining bad_xeid IsWhyNoGroup (call_of words.now))
-        (E.contents err.old) (E.contents err.new) }
-    // Where a writer failed, it has a front of what it was to have.
-    ensures unprinted { result ≡ IsUnprinted → HasPartOf
-        (λ complete. IsTextOver (FnReturnsAt O.Fn open_file) F.remaining bad_xeid (whole IsAnswerText complete) (call_of words.now))
-        (IsWhyOver (FnReturnsAt O.Fn open_file) F.remaining bad_xeid IsWhyNoGroup (call_of words.now))
-        (P.contents out.old) (P.contents out.new) (E.contents err.old) (E.contents err.new) }
-    ensures streams { StayApart result (out.new ≡ out.old) (err.new ≡ err.old) }
+    requires { O.IsAlwaysCallable open_file.now }
+    ensures { Ends result (streams P.contents out.old out.new E.contents err.old err.new)
+        (answer_prints (FnReturnsAt O.Fn open_file.now) F.remaining (call_of words.now)) }
 {
-    match lines_over::<Answer<'a>, F, O>(alloc, words, open_file) {
-        Ok(lines) => answer(&lines, out),
-        Err(refusal) => refuse(alloc, &refusal, err),
-    }
+    let answer = lines_over::<Answer<'a>, F, O>(alloc, words, open_file);
+    print_result(alloc, &answer, out, err)
 }
 
 /// The word that names the group, and the identifier.
@@ -118,7 +98,7 @@ impl<'a> OverRegister<'a> for Answer<'a> {
     }
 }
 
-/// A line and its end. Fails only if out of memory.
+/// A text and a line feed.
 fn ended(text: String) -> Result<Vec<u8>, AllocError>
     ensures { IfOk result (λ line. line.items ≡ as_line (string_bytes text)) }
 {
@@ -128,7 +108,7 @@ fn ended(text: String) -> Result<Vec<u8>, AllocError>
 }
 
 /// The bytes of the Map-Referral for nonce 1 that the group's server at its first locator answers; None if and only if
-/// no group has the name. Fails only if out of memory.
+/// no group has the name.
 pub fn answer_group(
     alloc: Global,
     accepted: &Accepted,
@@ -170,7 +150,7 @@ fn answer_by(alloc: Global, config: ServerConfig, x: Xeid) -> Result<Vec<u8>, Al
     }
 }
 
-/// The same bytes as lower-case hexadecimal text. Fails only if out of memory.
+/// The same bytes as lower-case hexadecimal text.
 pub fn answer_hex(
     alloc: Global,
     accepted: &Accepted,

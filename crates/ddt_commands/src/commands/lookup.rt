@@ -6,27 +6,22 @@ ghost use Rattle.std.specs.Fn.{FnReturnsAt};
 ghost use Rattle.std.specs.List.{flat_map};
 ghost use Rattle.ddt_register.specs.declared.register.Register.{Register};
 ghost use Rattle.ddt_sim.specs.Compiled.{AreCompiled};
-ghost use Rattle.ddt_words.specs.Call.{call_of};
+ghost use Rattle.ddt_commands.specs.CommandLine.Call.{call_of};
 ghost use Rattle.ddt_sim.specs.Sound.{IsSound};
-ghost use Rattle.ddt_sim.specs.declared.hop.LookupError.TheVariants.{Memory as IsMemory};
+ghost use Rattle.ddt_sim.specs.declared.lookup_result.LookupError.TheVariants.{Memory as IsMemory};
 ghost use Rattle.ddt_lines.specs.Lines.{ended, outcome_text};
-ghost use Rattle.ddt_commands.specs.declared.status.Status.TheVariants.{
-  Refused as IsRefused,
-  BadWords as IsBadWords,
-  Unprinted as IsUnprinted,
-};
-ghost use Rattle.ddt_commands.specs.Assign.{RefusesOnlyMemory};
-ghost use Rattle.ddt_commands.specs.Lookup.{AreAllTold, CallsForLookups, IsLookupText, IsLookupTold, bad_lookup, end_text, replied_line, why_text};
+ghost use Rattle.ddt_commands.specs.Commands.Assign.{RefusesOnlyMemory};
+ghost use Rattle.ddt_commands.specs.Commands.Lookup.{AreAllTold, CallsForLookups, IsLookupText, IsLookupTold, bad_lookup, end_text, replied_line, why_text, lookup_prints};
 ghost use Rattle.ddt_commands.specs.Over.{IsTextOver, IsWhyOver};
-ghost use Rattle.ddt_commands.specs.Running.{HasPartOf, HasRefused, HasText, StayApart};
-ghost use Rattle.ddt_commands.specs.Status.{answer_status};
+ghost use Rattle.ddt_commands.specs.Ends.{Ends, streams};
 
+use crate::command_line::{Argument, Declaration, Words};
 use crate::lines::Lines;
+use crate::over_register::{OverRegister, lines_over};
 use crate::refusal::{Refusal, WordRefusal};
-use crate::register::{OverRegister, lines_over};
 use crate::resolver::{Client, Servers, first_nonce, identifiers, own_address, why_name};
 use crate::status::Status;
-use crate::streams::{answer, refuse};
+use crate::streams::print_result;
 use ddt_cache::Moment;
 use ddt_check::Accepted;
 use ddt_lines::{hop_line, outcome_line};
@@ -34,7 +29,6 @@ use ddt_path::{Locator, Xeid};
 use ddt_resolver::Resolver;
 use ddt_sim::{Compiled, Hop, LookupError, a_step_keeps_a_resolver_sound, lookup};
 use ddt_wire::read_referral;
-use ddt_words::{Argument, Declaration, Words};
 use std::alloc::{AllocError, Global};
 use std::io::{Read, Write};
 
@@ -48,12 +42,11 @@ pub const WORDS: Declaration<'static> = Declaration {
     ],
 };
 
-/// Prints the lines of a lookup of each identifier, or tells why there are none: the words from left to right, or the
-/// register. `open_file` gives a file, or None where it can't be opened.
+/// Prints the lines of a lookup of each identifier. Refused for the words from left to right, or the register.
 pub fn run_lookup<F, O, P, E>(
     alloc: Global,
     words: &Words<'_>,
-    open_file: O,
+    open_file: &O,
     out: &mut P,
     err: &mut E,
 ) -> Status
@@ -62,31 +55,18 @@ where
     O: Fn(&str) -> Option<F> + Drop,
     P: Write,
     E: Write,
-    requires { O.IsAlwaysCallable open_file }
-    ensures fits { result ≢ IsBadWords }
-    ensures answered { (complete : Bool) → result ≡ answer_status complete → HasText
-        (IsTextOver (FnReturnsAt O.Fn open_file) F.remaining bad_lookup (IsLookupText complete) (call_of words.now))
-        (P.contents out.old) (P.contents out.new) }
-    ensures refused { result ≡ IsRefused → HasRefused
-        (IsWhyOver (FnReturnsAt O.Fn open_file) F.remaining bad_lookup RefusesOnlyMemory (call_of words.now))
-        (E.contents err.old) (E.contents err.new) }
-    // Where a writer failed, it has a front of what it was to have.
-    ensures unprinted { result ≡ IsUnprinted → HasPartOf
-        (λ complete. IsTextOver (FnReturnsAt O.Fn open_file) F.remaining bad_lookup (IsLookupText complete) (call_of words.now))
-        (IsWhyOver (FnReturnsAt O.Fn open_file) F.remaining bad_lookup RefusesOnlyMemory (call_of words.now))
-        (P.contents out.old) (P.contents out.new) (E.contents err.old) (E.contents err.new) }
-    ensures streams { StayApart result (out.new ≡ out.old) (err.new ≡ err.old) }
+    requires { O.IsAlwaysCallable open_file.now }
+    ensures { Ends result (streams P.contents out.old out.new E.contents err.old err.new)
+        (lookup_prints (FnReturnsAt O.Fn open_file.now) F.remaining (call_of words.now)) }
 {
-    match lines_over::<Lookup, F, O>(alloc, words, open_file) {
-        Ok(lines) => answer(&lines, out),
-        Err(refusal) => refuse(alloc, &refusal, err),
-    }
+    let answer = lines_over::<Lookup, F, O>(alloc, words, open_file);
+    print_result(alloc, &answer, out, err)
 }
 
 /// The identifiers, the resolver's own address, and the nonce of its first request.
 #[derive(Debug, Drop)]
 pub struct Lookup {
-    /// None where memory ran out: that is refused behind what the register is refused for.
+    /// None where memory ran out. A fault of the register is refused before that.
     ids: Option<Vec<Xeid>>,
     me: Locator,
     seed: u64,
@@ -121,7 +101,7 @@ impl OverRegister<'_> for Lookup {
 }
 
 /// The lines of the lookups of these identifiers, in order, all at the resolver's time. They are complete where each
-/// has an outcome. Fails only if out of memory.
+/// has an outcome.
 fn look_up_each(
     alloc: Global,
     servers: &mut Servers,
@@ -164,7 +144,7 @@ fn look_up(
     }
 }
 
-/// The line of each hop, as its reply says it, and the line of the outcome. Fails only if out of memory.
+/// The line of each hop, as its reply says it, and the line of the outcome.
 fn found_text(alloc: Global, lookup: &ddt_sim::Lookup) -> Result<Vec<u8>, AllocError>
     ensures { IfOk result (λ text. text.items
         ≡ flat_map replied_line lookup.now.hops ++ ended (outcome_text lookup.now.outcome)) }
@@ -200,7 +180,7 @@ fn end_of(error: LookupError) -> Result<(&'static str, &'static str), AllocError
     }
 }
 
-/// The line of a lookup that has no outcome. Fails only if out of memory.
+/// The line of a lookup that has no outcome.
 fn unfound(alloc: Global, end: &str, why: &str) -> Result<Lines, AllocError>
     ensures text { IfOk result (λ lines. lines.text.items ≡ ended (end.now ++ why.now)) }
     ensures complete { IfOk result (λ lines. lines.complete ≡ false) }

@@ -7,31 +7,24 @@ mod script;
 
 ghost use Rattle.std.specs.Prelude.{◌≡◌, ◌≢◌, ◌⊎◌, ℕ, Bool, List, map, None, Some, Ok, IsErr, IfOk, IfErr, true};
 ghost use Rattle.std.specs.Fn.{FnReturnsAt};
-ghost use Rattle.ddt_words.specs.Call.{call_of};
-ghost use Rattle.ddt_commands.specs.declared.status.Status.TheVariants.{
-  Answered as IsAnswered,
-  BadWords as IsBadWords,
-  Refused as IsRefused,
-  Unprinted as IsUnprinted,
-};
-ghost use Rattle.ddt_commands.specs.Lookup.{me_of, seed_of};
+ghost use Rattle.ddt_commands.specs.CommandLine.Call.{call_of};
+ghost use Rattle.ddt_commands.specs.Commands.Lookup.{me_of, seed_of};
 ghost use Rattle.ddt_commands.specs.Over.{path};
 ghost use Rattle.ddt_commands.specs.Register.{HasBytes};
-ghost use Rattle.ddt_commands.specs.Replay.{IsReplayOf, IsReplayText, IsWhyNoReplay, IsWhyNoScript, IsWhyNotReplayed, bad_replay, more_paths, script_path, script_refusal};
-ghost use Rattle.ddt_commands.specs.Running.{HasPartOf, HasRefused, HasText, StayApart};
-ghost use Rattle.ddt_commands.specs.Script.{SpellsScript};
-ghost use Rattle.ddt_commands.specs.Status.{answer_status};
+ghost use Rattle.ddt_commands.specs.Commands.Replay.{IsReplayOf, IsReplayText, IsWhyNoReplay, IsWhyNoScript, IsWhyNotReplayed, bad_replay, more_paths, script_path, script_refusal, replay_prints, script_prints};
+ghost use Rattle.ddt_commands.specs.Ends.{Ends, streams};
+ghost use Rattle.ddt_commands.specs.Commands.Script.{SpellsScript};
 
+use crate::command_line::{Argument, Declaration, Words};
 use crate::file::bytes_of;
 use crate::lines::Lines;
+use crate::over_register::register_at;
 use crate::refusal::{Refusal, RegisterRefusal, ScriptRefusal, WordRefusal};
-use crate::register::register_at;
 use crate::resolver::{first_nonce, own_address};
 use crate::status::Status;
-use crate::streams::{answer, refuse};
+use crate::streams::print_result;
 use ddt_path::Locator;
 use ddt_sim::Step;
-use ddt_words::{Argument, Declaration, Words};
 use schedule::{other_roots, replay};
 use script::{ScriptFault, read_script};
 use std::alloc::{AllocError, Global};
@@ -84,50 +77,11 @@ impl<'a> Replay<'a> {
 /// `open_file` gives a file, or None where it can't be opened. Files are looked at from left to right: the
 /// register, the script, the further registers. Once all are read, the first register whose root locators differ from
 /// those of the first is refused.
-pub fn run_script<F, O, W, E>(
+pub fn run_script<F, O, P, E>(
     alloc: Global,
     replay: &Replay<'_>,
     registers: &[&str],
-    open_file: O,
-    out: &mut W,
-    err: &mut E,
-) -> Status
-where
-    F: Read + Drop,
-    O: Fn(&str) -> Option<F> + Drop,
-    W: Write,
-    E: Write,
-    requires { O.IsAlwaysCallable open_file }
-    ensures ends { (result ≡ IsAnswered) ⊎ ((result ≡ IsRefused) ⊎ (result ≡ IsUnprinted)) }
-    ensures answered { result ≡ IsAnswered → HasText
-        (IsReplayOf (FnReturnsAt O.Fn open_file) F.remaining replay.now.register.now replay.now.script.now
-        (map (λ t. t.now) registers.now) replay.now.me replay.now.seed)
-        (W.contents out.old) (W.contents out.new) }
-    ensures refused { result ≡ IsRefused → HasRefused
-        (IsWhyNotReplayed (FnReturnsAt O.Fn open_file) F.remaining replay.now.register.now replay.now.script.now
-        (map (λ t. t.now) registers.now))
-        (E.contents err.old) (E.contents err.new) }
-    // Where a writer failed, it has a front of what it was to have.
-    ensures unprinted { result ≡ IsUnprinted → HasPartOf
-        (λ complete. IsReplayOf (FnReturnsAt O.Fn open_file) F.remaining replay.now.register.now replay.now.script.now
-        (map (λ t. t.now) registers.now) replay.now.me replay.now.seed)
-        (IsWhyNotReplayed (FnReturnsAt O.Fn open_file) F.remaining replay.now.register.now replay.now.script.now
-        (map (λ t. t.now) registers.now))
-        (W.contents out.old) (W.contents out.new) (E.contents err.old) (E.contents err.new) }
-    ensures streams { StayApart result (out.new ≡ out.old) (err.new ≡ err.old) }
-{
-    match replayed(alloc, replay, registers, open_file) {
-        Ok(lines) => answer(&lines, out),
-        Err(refusal) => refuse(alloc, &refusal, err),
-    }
-}
-
-/// Prints the lines of a replay of a script over a register, or tells why there are none. The words are looked at
-/// first, then all is as `run_script` says. `open_file` gives a file, or None where it can't be opened.
-pub fn run_replay<F, O, P, E>(
-    alloc: Global,
-    words: &Words<'_>,
-    open_file: O,
+    open_file: &O,
     out: &mut P,
     err: &mut E,
 ) -> Status
@@ -136,37 +90,51 @@ where
     O: Fn(&str) -> Option<F> + Drop,
     P: Write,
     E: Write,
-    requires { O.IsAlwaysCallable open_file }
-    ensures fits { result ≢ IsBadWords }
-    ensures answered { (complete : Bool) → result ≡ answer_status complete → HasText
-        (λ text. (complete ≡ true) × IsReplayText (FnReturnsAt O.Fn open_file) F.remaining (call_of words.now) text)
-        (P.contents out.old) (P.contents out.new) }
-    ensures refused { result ≡ IsRefused → HasRefused
-        (IsWhyNoReplay (FnReturnsAt O.Fn open_file) F.remaining (call_of words.now))
-        (E.contents err.old) (E.contents err.new) }
-    // Where a writer failed, it has a front of what it was to have.
-    ensures unprinted { result ≡ IsUnprinted → HasPartOf
-        (λ complete text. (complete ≡ true) × IsReplayText (FnReturnsAt O.Fn open_file) F.remaining (call_of words.now) text)
-        (IsWhyNoReplay (FnReturnsAt O.Fn open_file) F.remaining (call_of words.now))
-        (P.contents out.old) (P.contents out.new) (E.contents err.old) (E.contents err.new) }
-    ensures streams { StayApart result (out.new ≡ out.old) (err.new ≡ err.old) }
+    requires { O.IsAlwaysCallable open_file.now }
+    ensures { Ends result (streams P.contents out.old out.new E.contents err.old err.new)
+        (script_prints (FnReturnsAt O.Fn open_file.now) F.remaining replay.now.register.now replay.now.script.now
+        (map (λ t. t.now) registers.now) replay.now.me replay.now.seed) }
 {
-    match lines(alloc, words, open_file) {
-        Ok(lines) => answer(&lines, out),
-        Err(refusal) => refuse(alloc, &refusal, err),
-    }
+    let answer = replayed(alloc, replay, registers, open_file);
+    print_result(alloc, &answer, out, err)
 }
 
-/// The lines of the command, whose words these are, or why there are none.
-pub fn lines<'a, F, O>(alloc: Global, words: &Words<'a>, open_file: O) -> Result<Lines, Refusal<'a>>
+/// Prints the lines of a replay of a script over a register. The words are checked first, then all is as `run_script`
+/// says.
+pub fn run_replay<F, O, P, E>(
+    alloc: Global,
+    words: &Words<'_>,
+    open_file: &O,
+    out: &mut P,
+    err: &mut E,
+) -> Status
 where
     F: Read + Drop,
     O: Fn(&str) -> Option<F> + Drop,
-    requires { O.IsAlwaysCallable open_file }
+    P: Write,
+    E: Write,
+    requires { O.IsAlwaysCallable open_file.now }
+    ensures { Ends result (streams P.contents out.old out.new E.contents err.old err.new)
+        (replay_prints (FnReturnsAt O.Fn open_file.now) F.remaining (call_of words.now)) }
+{
+    let answer = lines(alloc, words, open_file);
+    print_result(alloc, &answer, out, err)
+}
+
+/// The lines of the command, whose words these are, or why there are none.
+pub fn lines<'a, F, O>(
+    alloc: Global,
+    words: &Words<'a>,
+    open_file: &O,
+) -> Result<Lines, Refusal<'a>>
+where
+    F: Read + Drop,
+    O: Fn(&str) -> Option<F> + Drop,
+    requires { O.IsAlwaysCallable open_file.now }
     ensures text { IfOk result (λ lines.
-        IsReplayText (FnReturnsAt O.Fn open_file) F.remaining (call_of words.now) lines.text.items) }
+        IsReplayText (FnReturnsAt O.Fn open_file.now) F.remaining (call_of words.now) lines.text.items) }
     ensures complete { IfOk result (λ lines. lines.complete ≡ true) }
-    ensures refused { IfErr result (IsWhyNoReplay (FnReturnsAt O.Fn open_file) F.remaining (call_of words.now)) }
+    ensures refused { IfErr result (IsWhyNoReplay (FnReturnsAt O.Fn open_file.now) F.remaining (call_of words.now)) }
 {
     let registers = words.all_values("registers").unwrap_or(&[]);
     match Replay::of(words) {
@@ -181,17 +149,17 @@ fn replayed<'a, F, O>(
     alloc: Global,
     asked: &Replay<'a>,
     registers: &[&'a str],
-    open_file: O,
+    open_file: &O,
 ) -> Result<Lines, Refusal<'a>>
 where
     F: Read + Drop,
     O: Fn(&str) -> Option<F> + Drop,
-    requires { O.IsAlwaysCallable open_file }
-    ensures text { IfOk result (λ lines. IsReplayOf (FnReturnsAt O.Fn open_file) F.remaining
+    requires { O.IsAlwaysCallable open_file.now }
+    ensures text { IfOk result (λ lines. IsReplayOf (FnReturnsAt O.Fn open_file.now) F.remaining
         asked.now.register.now asked.now.script.now (map (λ t. t.now) registers.now) asked.now.me
         asked.now.seed lines.text.items) }
     ensures complete { IfOk result (λ lines. lines.complete ≡ true) }
-    ensures refused { IfErr result (IsWhyNotReplayed (FnReturnsAt O.Fn open_file) F.remaining
+    ensures refused { IfErr result (IsWhyNotReplayed (FnReturnsAt O.Fn open_file.now) F.remaining
         asked.now.register.now asked.now.script.now (map (λ t. t.now) registers.now)) }
 {
     let first = register_at(alloc, open_file(asked.register), asked.register)?;
@@ -227,12 +195,12 @@ fn script_at<F: Read + Drop>(
     let bytes = bytes_of(alloc, file, unread)?;
     match read_script(alloc, &bytes) {
         Ok(steps) => Ok(steps),
-        Err(fault) => Err(unplayed(fault)),
+        Err(fault) => Err(refused_script(fault)),
     }
 }
 
 /// What is refused where bytes spell no script: the first line that spells no step, or out of memory.
-fn unplayed(fault: ScriptFault) -> Refusal<'static>
+fn refused_script(fault: ScriptFault) -> Refusal<'static>
     ensures { result ≡ script_refusal fault }
 {
     match fault {

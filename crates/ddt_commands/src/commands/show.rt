@@ -1,28 +1,22 @@
 //! `ddt show HEX`: what a datagram says, or the first fault in it.
 
 ghost use Rattle.std.specs.Prelude.{◌≡◌, ◌≢◌, Bool, true, IfOk, IfErr, Ok, Some};
-ghost use Rattle.ddt_words.specs.Call.{call_of};
+ghost use Rattle.ddt_commands.specs.CommandLine.Call.{call_of};
 ghost use Rattle.ddt_commands.specs.declared.refusal.Refusal.TheVariants.{NoMessage as IsNoMessage};
 ghost use Rattle.ddt_commands.specs.declared.refusal.message.MessageRefusal.TheVariants.{UnknownMessage as IsUnknownMessage};
-ghost use Rattle.ddt_commands.specs.declared.status.Status.TheVariants.{
-  Refused as IsRefused,
-  BadWords as IsBadWords,
-  Unprinted as IsUnprinted,
-};
-ghost use Rattle.ddt_commands.specs.Running.{HasPartOf, HasRefused, HasText, StayApart};
-ghost use Rattle.ddt_commands.specs.Show.{IsMessageText, IsShowText, IsUnknownType, IsWhyNoReply, IsWhyNoReferral, IsWhyNoRequest, IsWhyNotShown, hex_refusal, type_number, type_of};
-ghost use Rattle.ddt_commands.specs.Status.{answer_status};
+ghost use Rattle.ddt_commands.specs.Ends.{Ends, streams};
+ghost use Rattle.ddt_commands.specs.Commands.Show.{IsMessageText, IsShowText, IsUnknownType, IsWhyNoReply, IsWhyNoReferral, IsWhyNoRequest, IsWhyNotShown, hex_refusal, type_number, type_of, show_prints};
 
+use crate::command_line::{Argument, Declaration, Words};
 use crate::lines::Lines;
 use crate::refusal::{MessageRefusal, Refusal};
 use crate::status::Status;
-use crate::streams::{answer, refuse};
+use crate::streams::print_result;
 use ddt_ecm::read_request;
 use ddt_lines::{negative_reply_line, referral_line, request_line};
 use ddt_wire::{
     ENCAPSULATED, MAP_REFERRAL, MAP_REPLY, TYPE_SHIFT, read_negative_reply, read_referral,
 };
-use ddt_words::{Argument, Declaration, Words};
 use hex::FromHexError;
 use std::alloc::Global;
 use std::io::Write;
@@ -32,30 +26,15 @@ pub const WORDS: Declaration<'static> = Declaration {
     arguments: &[Argument::One("hex")],
 };
 
-/// Prints the line of the message that the word spells in hexadecimal, or tells the first fault in it. It opens no
-/// file.
+/// Prints the line of the message that the word spells in hexadecimal, or its first fault. It opens no file.
 pub fn run_show<P, E>(alloc: Global, words: &Words<'_>, out: &mut P, err: &mut E) -> Status
 where
     P: Write,
     E: Write,
-    ensures fits { result ≢ IsBadWords }
-    ensures answered { (complete : Bool) → result ≡ answer_status complete → HasText
-        (λ text. (complete ≡ true) × IsShowText (call_of words.now) text)
-        (P.contents out.old) (P.contents out.new) }
-    ensures refused { result ≡ IsRefused → HasRefused
-        (IsWhyNotShown (call_of words.now))
-        (E.contents err.old) (E.contents err.new) }
-    // Where a writer failed, it has a front of what it was to have.
-    ensures unprinted { result ≡ IsUnprinted → HasPartOf
-        (λ complete text. (complete ≡ true) × IsShowText (call_of words.now) text)
-        (IsWhyNotShown (call_of words.now))
-        (P.contents out.old) (P.contents out.new) (E.contents err.old) (E.contents err.new) }
-    ensures streams { StayApart result (out.new ≡ out.old) (err.new ≡ err.old) }
+    ensures { Ends result (streams P.contents out.old out.new E.contents err.old err.new) (show_prints (call_of words.now)) }
 {
-    match lines(alloc, words) {
-        Ok(lines) => answer(&lines, out),
-        Err(refusal) => refuse(alloc, &refusal, err),
-    }
+    let answer = lines(alloc, words);
+    print_result(alloc, &answer, out, err)
 }
 
 /// A type of message that is shown.
@@ -86,7 +65,7 @@ fn message_text(alloc: Global, words: &Words<'_>) -> Result<Vec<u8>, Refusal<'st
 {
     let bytes = match hex::decode(alloc, words.value("hex")) {
         Ok(bytes) => bytes,
-        Err(fault) => return Err(undecoded(fault)),
+        Err(fault) => return Err(refused_hex(fault)),
     };
     match message_type(&bytes)? {
         MessageType::Reply => reply_in(alloc, &bytes),
@@ -109,7 +88,7 @@ fn message_type(bytes: &[u8]) -> Result<MessageType, Refusal<'static>>
 }
 
 /// What is refused where a word isn't decoded: out of memory if that is why, else a word that isn't hexadecimal.
-fn undecoded(fault: FromHexError) -> Refusal<'static>
+fn refused_hex(fault: FromHexError) -> Refusal<'static>
     ensures { result ≡ hex_refusal fault }
 {
     match fault {

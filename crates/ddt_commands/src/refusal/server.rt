@@ -1,4 +1,4 @@
-//! What stands in the way of a server or of a running resolver: an address, a configuration, a socket.
+//! Why a server or a resolver doesn't run: an address, a configuration, a socket.
 
 ghost use Rattle.std.specs.Prelude.{Some};
 ghost use Rattle.ddt_text.specs.Written.{written_locator};

@@ -1,5 +1,6 @@
--- A sum over bytes with their checksum in place is right.
-use Rattle.std.proofs.Common.{◌≡◌, ℕ, zero, suc, ◌+◌, ◌*◌, ◌<◌, ◌≤◌, true, false, ltb, eqb, List, [], ◌∷◌, ◌++◌, length, arith, inl, inr}
+-- A sum over bytes is the plain one, folded, and is right where their checksum is in place.
+use Rattle.std.proofs.Common.{◌≡◌, ℕ, zero, suc, ◌+◌, ◌*◌, ◌<◌, ◌≤◌, true, false, ltb, eqb, List, [], ◌∷◌, ◌++◌, length, refl, subst, arith, inl, inr}
+use Rattle.std.specs.Prelude.{slice_index}
 use Rattle.std.specs.Int.{w16, to_be_bytes}
 use Rattle.std.proofs.lemmas.Bool.{cases_lt, lt-ltb, le-ltb, ne_eqb}
 use Rattle.ddt_path.specs.Steps.{IsBytes}
@@ -40,6 +41,27 @@ folded s (a ∷ []) hs fits = added s (a * 256) hs (omega (arith, fits.at 0))
 folded s (a ∷ b ∷ rest) hs fits =
     let one = added s (a * 256 + b) hs (omega (arith, fits.at 0, fits.at 1)) in
     chained s (a * 256 + b) (words rest) 0 (ones_sum s (a ∷ b ∷ rest)) one (folded (ones_add s (a * 256 + b)) rest one.small (IsBytes-drop 2 (a ∷ b ∷ rest) fits))
+
+-- what a total folds to is one number
+only_fold : (a b total : ℕ) → IsFolded a total → IsFolded b total → a ≡ b
+only_fold a b total p q = elim (cases_lt 0 total) [
+  | inl lt ↦ omega (arith, p.folds, q.folds, p.small, q.small, p.some lt, q.some lt)
+  | inr le ↦ omega (arith, p.folds, q.folds)
+]
+
+-- the plain sum folded at the end is the one's complement sum
+pub folded_last : (s total sum : ℕ) (bytes : List ℕ) → s ≤ 65535 → IsBytes bytes → IsFolded sum total → total ≡ s + words bytes → sum ≡ ones_sum s bytes
+folded_last s total sum bytes hs fits f e = only_fold sum (ones_sum s bytes) (s + words bytes) (subst (λ (t : ℕ). IsFolded sum t) e f) (folded s bytes hs fits)
+
+-- the words of bytes, by how many there are
+pub words_one : (xs : List ℕ) → length xs < 2 → (length xs ≡ 0 → ⊥) → words xs ≡ slice_index xs 0 * 256
+words_one [] h some = absurd (some refl)
+words_one (x ∷ []) h some = refl
+words_one (x ∷ y ∷ xs) h some = absurd (omega arith)
+
+pub words_none : (xs : List ℕ) → length xs ≡ 0 → words xs ≡ 0
+words_none [] e = refl
+words_none (x ∷ xs) e = absurd (omega arith)
 
 -- a total that is a multiple of 65535, and not 0, folds to 65535
 right_total : (sum total times : ℕ) → IsFolded sum total → total ≡ 65535 * (times + 1) → sum ≡ 65535

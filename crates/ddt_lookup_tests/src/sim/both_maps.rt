@@ -71,7 +71,7 @@ const CASES: &[Case] = &[
     },
 ];
 
-/// Appends the line of a datagram: a word, who sends or hears it, and its bytes.
+/// Appends the line of a datagram: a word, its sender or receiver, and its bytes.
 fn push_datagram(
     text: &mut Vec<u8>,
     word: &str,
@@ -137,12 +137,12 @@ fn lookups<S: PrefixMap<u32>, M: PrefixMap<Entry>>(
     lookups_over(alloc, &mut servers, &mut resolver, case)
 }
 
-/// Judges what was done over lists and over trees, each in one text.
+/// Checks that the texts over lists and over trees are the same.
 fn judge_texts(rt: &impl Abort, says: &str, lists: &[u8], trees: &[u8]) {
     same(rt, &lists, &trees, &says);
 }
 
-/// Judges the lookups of a case.
+/// Checks the lookups of a case.
 fn judge(rt: &impl Abort, alloc: Global, case: &Case) -> Result<(), Fail> {
     let lists = lookups::<ListMap<u32>, ListMap<Entry>>(alloc, case)?;
     let trees = lookups::<TrieMap<u32>, TrieMap<Entry>>(alloc, case)?;

@@ -1,4 +1,4 @@
-//! The longest lookup that servers can keep busy: it has just as many hops as `lookup` allows, 16 for each digit of the
+//! The longest lookup that servers can cause: it has exactly as many hops as `lookup` allows, 16 for each digit of the
 //! identifier and 32 more.
 
 use super::liars::{Liars, Said, Way, record};
@@ -38,7 +38,7 @@ const LONGEST: &[Case] = &[
     },
 ];
 
-/// The root's reply of nonce 1 with a record.
+/// The root's reply with nonce 1 and a record.
 fn reply(alloc: Global, said: &[Said]) -> Result<Vec<u8>, Fail> {
     let [said] = said else {
         return Err("not one record".into());
@@ -62,7 +62,7 @@ fn is_followed(heard: &Heard) -> bool {
     }
 }
 
-/// Lets a new resolver remember the referral.
+/// A new resolver that remembers the referral.
 fn remember(alloc: Global, resolver: &mut ListResolver, case: &Case) -> Result<(), Fail> {
     let reply = reply(alloc, case.referral)?;
     if follows(resolver, case.pending, &reply)? {
@@ -71,7 +71,7 @@ fn remember(alloc: Global, resolver: &mut ListResolver, case: &Case) -> Result<(
     Err("not followed".into())
 }
 
-/// The outcome of a lookup and how many hops it has.
+/// The outcome of a lookup and the number of its hops.
 fn counted(alloc: Global, lookup: &Lookup) -> Result<String, Fail> {
     let outcome = outcome_text(alloc, &lookup.outcome)?;
     let hops = lookup.hops.as_slice().len();
@@ -91,7 +91,7 @@ fn longest(alloc: Global, case: &Case) -> Result<Lookup, Fail> {
     longest_by(alloc, &mut resolver, case)
 }
 
-/// Judges the longest lookup of a case.
+/// Checks the longest lookup of a case.
 fn judge(rt: &impl Abort, alloc: Global, case: &Case) -> Result<(), Fail> {
     let lookup = longest(alloc, case)?;
     let counted = counted(alloc, &lookup)?;

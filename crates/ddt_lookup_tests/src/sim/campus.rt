@@ -8,8 +8,8 @@ use std::alloc::Global;
 use std::process::Abort;
 use std::test::Fail;
 
-/// Lookups by a new resolver, one after the other, over the servers of a register with further rows behind it: the
-/// identifier of each, and its outcome with the servers that are asked.
+/// Lookups by a new resolver, one after the other, over the servers of a register with further rows: the identifier of
+/// each, and its outcome with the servers that are asked.
 struct World {
     says: &'static str,
     register: &'static str,
@@ -137,7 +137,7 @@ const WORLDS: &[World] = &[
     },
 ];
 
-/// Makes a lookup and judges it.
+/// Makes a lookup and checks it.
 fn judge_lookup(
     rt: &impl Abort,
     alloc: Global,
@@ -159,7 +159,7 @@ fn servers(alloc: Global, world: &World) -> Result<ListServers, Fail> {
     served(alloc, &text)
 }
 
-/// Makes each lookup of a world and judges it. None is pending at the end.
+/// Makes each lookup of a world and checks it. None is pending at the end.
 fn judge_lookups(
     rt: &impl Abort,
     alloc: Global,

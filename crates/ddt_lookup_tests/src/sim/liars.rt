@@ -15,7 +15,7 @@ use ddt_wire::write_referral;
 use std::alloc::{AllocError, Global};
 use std::test::Fail;
 
-/// A record: its action, its prefix, how many minutes it may be kept, and its locators.
+/// A record: its action, its prefix, its TTL in minutes, and its locators.
 #[derive(Clone, Copy)]
 pub struct Said(
     pub Action,
@@ -24,21 +24,21 @@ pub struct Said(
     pub &'static [&'static str],
 );
 
-/// What servers reply that nobody calls honest, with some records.
+/// How dishonest servers reply, with some records.
 #[derive(Clone, Copy)]
 pub enum Way {
-    /// Each record once, in their order, and then nothing.
+    /// Each record once, in order, and then nothing.
     InTurn,
     /// The first record.
     Always,
-    /// The first record, under this nonce.
+    /// The first record, with this nonce.
     Under(u64),
-    /// A referral to the servers of the first record, for one digit of the identifier more than the time before, while
-    /// there is one.
+    /// A referral to the servers of the first record, each time for one digit of the identifier more, while there is
+    /// one.
     Deeper,
     /// The first record, which has eight locators, with 127.0.0.9 as a ninth, and after that always the second.
     Ninth,
-    /// What keeps a lookup busy for longest that starts at eight servers which it remembers; each set is that of the
+    /// The replies that keep a lookup busy for longest that starts at eight remembered servers; each set is that of the
     /// first record.
     Longest,
 }
@@ -54,7 +54,7 @@ pub fn record(alloc: Global, said: &Said) -> Result<ReferralRecord, Fail> {
     })
 }
 
-/// The NODE-REFERRAL to these servers for the first digits of an identifier, all of it where it has no more.
+/// The NODE-REFERRAL to these servers for the first digits of an identifier, for the whole of it if it has no more.
 fn first_digits(x: Xeid, len: u16, servers: LocatorSet) -> ReferralRecord {
     let len = len.min(u16::from(x.path_len())) as u8;
     ReferralRecord {
@@ -77,9 +77,9 @@ fn not_registered(x: Xeid) -> ReferralRecord {
     }
 }
 
-/// The reply after so many others that keeps a lookup busy for longest. The first seven servers of a set know no
-/// registration, and the eighth refers to the next set, for one digit more. At the last set it is not in charge, so
-/// that the lookup starts again; at the last set of all it knows no registration either.
+/// The reply after `requests` others, of those that keep a lookup busy for longest. The first seven servers of a set
+/// know no registration, and the eighth refers to the next set, for one digit more. At the last set it is not in
+/// charge, so that the lookup starts again; at the last set of all it knows no registration either.
 fn longest_way(x: Xeid, requests: u16, servers: LocatorSet) -> ReferralRecord {
     let sets = u16::from(x.path_len()) + 2;
     let set = requests / 8;
@@ -97,12 +97,12 @@ fn longest_way(x: Xeid, requests: u16, servers: LocatorSet) -> ReferralRecord {
 pub struct Liars {
     way: Way,
     records: Vec<ReferralRecord>,
-    /// How many requests they got, at most 65,535.
+    /// The number of requests that they got, at most 65,535.
     requests: u16,
 }
 
 impl Liars {
-    /// Servers with these records that got no request yet.
+    /// Creates servers with these records, without any request.
     pub fn new(alloc: Global, way: Way, said: &[Said]) -> Result<Liars, Fail> {
         let mut records = Vec::new(alloc);
         for each in said {
@@ -115,7 +115,7 @@ impl Liars {
         })
     }
 
-    /// How many requests they got, at most 65,535.
+    /// The number of requests that they got, at most 65,535.
     pub fn requests(&self) -> u16 {
         self.requests
     }
@@ -125,7 +125,7 @@ impl Liars {
         matches!(self.way, Way::Ninth) && self.requests == 0
     }
 
-    /// Which record the next reply has.
+    /// The index of the next reply's record.
     fn place(&self) -> usize {
         match self.way {
             Way::InTurn => usize::from(self.requests),

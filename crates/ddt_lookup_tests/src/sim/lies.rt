@@ -1,4 +1,4 @@
-//! Lookups over servers that lie: referrals that go on and on, replies of other nonces and about other identifiers, and
+//! Lookups over servers that lie: endless referrals, replies with other nonces and about other identifiers, and
 //! negative answers that are too wide or too narrow.
 
 use super::liars::{Liars, Said, Way};
@@ -12,13 +12,13 @@ use std::alloc::Global;
 use std::process::Abort;
 use std::test::Fail;
 
-/// How many minutes most records may be kept.
+/// The TTL of most records, in minutes.
 const DAY: u32 = 1440;
 
 /// The identifier of most lookups.
 const X: &str = "[0]10.1.2.3";
 
-/// What is done with a resolver.
+/// An act on a resolver.
 enum Act {
     /// A lookup at a moment, in milliseconds, over servers that answer in this way.
     LookUp(u64, &'static str, Way, &'static [Said]),
@@ -26,8 +26,8 @@ enum Act {
     Ask(&'static str),
 }
 
-/// A new resolver with these root servers, and what is done with it, each with what it tells: of a lookup what it
-/// gives, how many requests the servers got, and how many lookups are pending afterwards.
+/// A new resolver with these root servers, and acts on it, each with its text: of a lookup its result, the number of
+/// requests that the servers got, and the number of lookups that are pending afterwards.
 struct Case {
     says: &'static str,
     roots: &'static [&'static str],
@@ -196,7 +196,7 @@ const REFERRALS: &[Case] = &[
     },
 ];
 
-/// Replies that are none to the lookup. It ends, and as the ask after it shows, nothing of the reply is remembered.
+/// Replies that aren't for the lookup. It ends, and the ask after it shows that nothing of the reply is remembered.
 const NO_REPLIES: &[Case] = &[
     Case {
         says: "a referral without servers is no reply",
@@ -375,7 +375,7 @@ const ANSWERS: &[Case] = &[
     },
 ];
 
-/// What an act tells.
+/// The text of an act.
 fn told(alloc: Global, resolver: &mut ListResolver, act: &Act) -> Result<String, Fail> {
     match act {
         Act::LookUp(millis, identifier, way, said) => {
@@ -386,7 +386,7 @@ fn told(alloc: Global, resolver: &mut ListResolver, act: &Act) -> Result<String,
     }
 }
 
-/// What a lookup over these servers tells.
+/// The text of a lookup over these servers.
 fn told_by(
     alloc: Global,
     servers: &mut Liars,
@@ -400,7 +400,7 @@ fn told_by(
     Ok(format!(in alloc; "{found}; requests {requests}; pending {pending}")?)
 }
 
-/// What an ask at moment 0 tells.
+/// The text of an ask at moment 0.
 fn ask(alloc: Global, resolver: &mut ListResolver, text: &str) -> Result<String, Fail> {
     match resolver.ask(moment(0)?, identifier(text)?) {
         Ok(asked) => asked_text(alloc, &asked),
@@ -408,7 +408,7 @@ fn ask(alloc: Global, resolver: &mut ListResolver, text: &str) -> Result<String,
     }
 }
 
-/// Which server is asked.
+/// The text of the server that is asked.
 fn asked_text(alloc: Global, asked: &Asked) -> Result<String, Fail> {
     match asked {
         Asked::Sent(_ticket, request) => {
@@ -419,7 +419,7 @@ fn asked_text(alloc: Global, asked: &Asked) -> Result<String, Fail> {
     }
 }
 
-/// Judges each act of a case.
+/// Checks each act of a case.
 fn judge_acts(
     rt: &impl Abort,
     alloc: Global,
@@ -473,8 +473,8 @@ fn runs(
     Ok(())
 }
 
-/// How many requests each of two members of the servers gets, where a request is handed over once to the first, and
-/// twice once the second is in force.
+/// The number of requests that each of two members of the servers gets, if a request is delivered once to the first,
+/// and twice after the second is in force.
 fn requests_of_both(alloc: Global) -> Result<(u16, u16), Fail> {
     let steps = [
         Step::Ask(identifier(X)?),

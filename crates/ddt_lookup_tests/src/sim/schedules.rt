@@ -1,4 +1,4 @@
-//! Schedules over the servers of a register: each step with what it tells.
+//! Schedules over the servers of a register: each step with its event.
 
 use crate::texts::{identifier, judge_number, judge_text, locator_text, outcome_text, worded};
 use crate::worlds::{ListResolver, ROOT, rooted, served};
@@ -23,7 +23,7 @@ pub enum Act {
     Replace(u64),
 }
 
-/// Steps, each with what it tells. An answer at once has no ticket.
+/// Steps, each with the text of its event. An answer at once has no ticket.
 pub type Lines = &'static [(Act, &'static str)];
 
 const A_HOLE_ENDS: Lines = &[
@@ -99,8 +99,8 @@ const ONE_HOLE: Lines = &[
     (Act::Deliver(1), "ticket 1 answer hole [0]11.0.0.0/8"),
 ];
 
-/// A zone comes, goes, comes and goes again while its identifier is looked up: the last hole is that of the register that
-/// went out of force last.
+/// A zone comes, goes, comes and goes again while its identifier is looked up: the last hole is that of the register
+/// that went out of force last.
 pub const A_ZONE_COMES_AND_GOES: Lines = &[
     (Act::Ask("[0]10.2.0.1"), "ticket 1 asks 127.0.0.1"),
     (Act::Deliver(0), "reply 1"),
@@ -262,7 +262,7 @@ fn transcript(alloc: Global, registers: &[&str], lines: Lines) -> Result<Transcr
     played_anew::<ListMap<u32>, ListMap<Entry>>(alloc, registers, lines)
 }
 
-/// How many lookups are pending after these lines.
+/// The number of lookups that are pending after these lines.
 fn pending_after(alloc: Global, registers: &[&str], lines: Lines) -> Result<usize, Fail> {
     let mut resolver: ListResolver = rooted(alloc, &[ROOT], 1)?;
     let _transcript = played::<ListMap<u32>, ListMap<Entry>>(
@@ -274,7 +274,7 @@ fn pending_after(alloc: Global, registers: &[&str], lines: Lines) -> Result<usiz
     Ok(resolver.pending())
 }
 
-/// What comes of a lookup: its ticket, what it does, and with what.
+/// The text of a lookup's progress: its ticket, a verb, and an object.
 fn ticket_text<D: Display>(
     alloc: Global,
     ticket: Ticket,
@@ -299,7 +299,7 @@ fn plain_text(alloc: Global, word: &str) -> Result<String, Fail> {
     Ok(String::from_str(alloc, word)?)
 }
 
-/// What an event tells, without the bytes of a request.
+/// The text of an event, without the bytes of a request.
 fn event_text(alloc: Global, event: &Event) -> Result<String, Fail> {
     match event {
         Event::Asked(asked) => asked_text(alloc, asked),
@@ -342,7 +342,7 @@ fn ticked_text(alloc: Global, ticked: &Ticked) -> Result<String, Fail> {
     }
 }
 
-/// Judges an event.
+/// Checks an event.
 fn judge_event(
     rt: &impl Abort,
     alloc: Global,
@@ -355,7 +355,7 @@ fn judge_event(
     Ok(())
 }
 
-/// Judges each event of a schedule.
+/// Checks each event of a schedule.
 fn judge_events(
     rt: &impl Abort,
     alloc: Global,
@@ -370,7 +370,7 @@ fn judge_events(
     Ok(())
 }
 
-/// Plays a schedule and judges it.
+/// Runs a schedule and checks it.
 fn judge(rt: &impl Abort, alloc: Global, schedule: &Schedule) -> Result<(), Fail> {
     let transcript = transcript(alloc, schedule.registers, schedule.lines)?;
     judge_events(rt, alloc, schedule, transcript.events.as_slice())
@@ -384,7 +384,7 @@ fn each_step_tells_what_comes_of_it(rt: HostRuntime) -> Result<(), Fail> {
     Ok(())
 }
 
-/// Who sent a datagram to whom.
+/// The sender and the receiver of a datagram.
 fn way_text(alloc: Global, datagram: &Datagram) -> Result<String, Fail> {
     let word = if datagram.is_reply {
         "reply"
@@ -396,7 +396,7 @@ fn way_text(alloc: Global, datagram: &Datagram) -> Result<String, Fail> {
     Ok(format!(in alloc; "{word} from {source} to {to}")?)
 }
 
-/// Judges a datagram.
+/// Checks a datagram.
 fn judge_datagram(
     rt: &impl Abort,
     alloc: Global,
@@ -408,7 +408,7 @@ fn judge_datagram(
     Ok(())
 }
 
-/// Judges all datagrams.
+/// Checks all datagrams.
 fn judge_datagrams(rt: &impl Abort, alloc: Global, sent: &[Datagram]) -> Result<(), Fail> {
     judge_number(rt, "one hole", sent.len() as u64, OF_ONE_HOLE.len() as u64);
     for (datagram, wanted) in sent.iter().zip(OF_ONE_HOLE.iter()) {

@@ -3,14 +3,14 @@
 use crate::comparison::{holds, same};
 use crate::worlds::moment;
 use ddt_cache::LAST_MOMENT;
-use ddt_loop::{Clock, StandingClock, SteppingClock, SystemClock};
+use ddt_loop::{Clock, FixedClock, SteppingClock, SystemClock};
 use std::test::Fail;
 use std::{io, time};
 
-/// The first reading of a clock that steps, its step, and the second reading, in milliseconds.
+/// The first reading of a stepping clock, its step, and the second reading, in milliseconds.
 const STEPS: [(u64, u64, u64); 2] = [(5, 3, 8), (LAST_MOMENT - 1, u64::MAX, LAST_MOMENT)];
 
-/// Two readings that follow each other, in milliseconds.
+/// Two consecutive readings, in milliseconds.
 fn readings(clock: &mut impl Clock) -> (u64, u64) {
     let first = clock.now().millis();
     (first, clock.now().millis())
@@ -18,12 +18,12 @@ fn readings(clock: &mut impl Clock) -> (u64, u64) {
 
 #[test]
 fn a_clock_stands(rt: HostRuntime) -> Result<(), Fail> {
-    let mut clock = StandingClock { at: moment(5)? };
+    let mut clock = FixedClock { at: moment(5)? };
     same(&rt, &readings(&mut clock), &(5, 5), &"the readings");
     Ok(())
 }
 
-/// Two readings of a clock that steps.
+/// Two readings of a stepping clock.
 fn stepped(first: u64, step: u64) -> Result<(u64, u64), Fail> {
     let next = moment(first)?;
     Ok(readings(&mut SteppingClock { next, step }))

@@ -1,7 +1,7 @@
-//! Runs over wires that tell their calls, and whether these are fair: what comes from a server's address says what the
-//! register says there.
+//! Runs over wires that record their calls, and whether these are fair: a packet from a server's address has the record
+//! of the register there.
 
-use super::ends::judge_ends;
+use super::end_texts::judge_ends;
 use crate::comparison::same;
 use crate::texts::{identifier, locator};
 use crate::worlds::{ListResolver, ListServers, ME, ROOT, moment, rooted, served};
@@ -9,11 +9,11 @@ use ddt_ecm::{CONTROL_PORT, read_request, write_request};
 use ddt_examples::bytes_of;
 use ddt_examples::messages::HOLE_OF_EVERYTHING;
 use ddt_examples::registers::CAMPUS;
-use ddt_loop::{LoopEnd, StandingClock, Tree, loop_turns};
+use ddt_loop::{FixedClock, LoopEnd, SocketMap, loop_turns};
 use ddt_path::{Listed, Locator, ReferralRecord};
 use ddt_sim::Servers;
+use ddt_sockets::{Call, WaitingDatagram, WiresInMemory};
 use ddt_wire::read_referral;
-use ddt_wires::{Call, Waiting, WiresInMemory};
 use std::alloc::Global;
 use std::process::Abort;
 use std::test::Fail;
@@ -23,14 +23,14 @@ const X: &str = "[0]10.1.2.3";
 
 /// A reply that waits at the resolver.
 enum Reply {
-    /// What the server says to the request of this nonce.
+    /// The server's reply to the request with this nonce.
     Owed(u64),
     /// These bytes, in hexadecimal.
     Forged(&'static str),
 }
 
-/// The replies that wait from servers, what the lookup ends in, and how many replies the resolver is given, where each
-/// of them is fair.
+/// The replies that wait from servers, the end of the lookup, and the number of replies that the resolver receives, if
+/// each of them is fair.
 struct Case {
     says: &'static str,
     replies: &'static [(&'static str, Reply)],
@@ -57,13 +57,13 @@ const CASES: &[Case] = &[
     },
 ];
 
-/// The nonce and the record of the Map-Referral that bytes are.
+/// The nonce and the record of a Map-Referral's bytes.
 fn referral_in(bytes: &[u8]) -> Option<(u64, ReferralRecord)> {
     let referral = read_referral(bytes).ok()?;
     Some((referral.nonce(), referral.to_record()))
 }
 
-/// The bytes that a call tried to send from the resolver's socket to a server's.
+/// The bytes of a call that sends from the resolver's socket to a server's.
 fn sent_in(call: &Call, me: Locator, server: Locator) -> Option<&[u8]> {
     match call {
         Call::Tried {
@@ -77,7 +77,7 @@ fn sent_in(call: &Call, me: Locator, server: Locator) -> Option<&[u8]> {
     }
 }
 
-/// Whether bytes are a request of this nonce.
+/// Whether bytes are a request with this nonce.
 fn is_request_of(bytes: &[u8], nonce: u64) -> bool {
     match read_request(bytes) {
         Ok(request) => request.nonce() == nonce,
@@ -85,7 +85,7 @@ fn is_request_of(bytes: &[u8], nonce: u64) -> bool {
     }
 }
 
-/// Whether a server of the campus says this to a request.
+/// Whether a server of the campus replies this to a request.
 fn says(
     alloc: Global,
     servers: &mut ListServers,
@@ -102,7 +102,7 @@ fn says(
     }
 }
 
-/// Whether bytes from a server say what the server says to each request of their nonce that it was asked before.
+/// Whether bytes from a server are its reply to each request with their nonce that it was sent before.
 fn is_fair_reply(
     alloc: Global,
     servers: &mut ListServers,
@@ -123,7 +123,7 @@ fn is_fair_reply(
     Ok(true)
 }
 
-/// The server and the bytes of a call that gave the resolver a packet from port 4342.
+/// The server and the bytes of a call by which the resolver received a packet from port 4342.
 fn reply_in(call: &Call, me: Locator) -> Option<(Locator, &[u8])> {
     match call {
         Call::Received {
@@ -136,7 +136,7 @@ fn reply_in(call: &Call, me: Locator) -> Option<(Locator, &[u8])> {
     }
 }
 
-/// How many replies the calls gave the resolver, where each of them is fair.
+/// The number of replies that the resolver received, if each of them is fair.
 fn fair_replies(
     alloc: Global,
     servers: &mut ListServers,
@@ -168,7 +168,7 @@ fn bytes_from(
     }
 }
 
-/// What a server says to the resolver's request of a nonce.
+/// A server's reply to the resolver's request with a nonce.
 fn owed(
     alloc: Global,
     servers: &mut ListServers,
@@ -182,7 +182,7 @@ fn owed(
     }
 }
 
-/// Lets a reply wait for the resolver.
+/// Adds a reply that waits for the resolver.
 fn wait(
     alloc: Global,
     servers: &mut ListServers,
@@ -191,7 +191,7 @@ fn wait(
 ) -> Result<(), Fail> {
     let from = locator(reply.0)?;
     let bytes = bytes_from(alloc, servers, from, &reply.1)?;
-    wires.add(Waiting {
+    wires.add(WaitingDatagram {
         at: ME,
         from,
         port: CONTROL_PORT,
@@ -211,7 +211,7 @@ fn with_replies(
     Ok(wires)
 }
 
-/// Lets replies wait for the resolver.
+/// Adds replies that wait for the resolver.
 fn wait_all(
     alloc: Global,
     servers: &mut ListServers,
@@ -224,7 +224,7 @@ fn wait_all(
     Ok(())
 }
 
-/// How the lookup ends over these wires, at which no server is polled.
+/// The end of the lookup over these wires, at which no server is polled.
 fn end_over(
     alloc: Global,
     wires: &mut WiresInMemory,
@@ -232,11 +232,11 @@ fn end_over(
 ) -> Result<Vec<LoopEnd>, Fail> {
     let (x, at) = (identifier(X)?, moment(0)?);
     let mut resolver: ListResolver = rooted(alloc, &[ROOT], 1)?;
-    let mut clock = StandingClock { at };
+    let mut clock = FixedClock { at };
     Ok(loop_turns(
         wires,
         &mut clock,
-        &Tree {
+        &SocketMap {
             me: ME,
             sockets: &[],
             servers,
@@ -247,7 +247,7 @@ fn end_over(
     )?)
 }
 
-/// Judges how the lookup ends over these wires.
+/// Checks the end of the lookup over these wires.
 fn judge_end(
     rt: &impl Abort,
     alloc: Global,
@@ -259,7 +259,7 @@ fn judge_end(
     judge_ends(rt, alloc, case.says, &ends, &[case.end])
 }
 
-/// Judges how many replies the wires gave the resolver, where each of them is fair.
+/// Checks the number of replies that the resolver received, if each of them is fair.
 fn judge_calls(
     rt: &impl Abort,
     alloc: Global,
@@ -267,7 +267,7 @@ fn judge_calls(
     servers: &mut ListServers,
     case: &Case,
 ) -> Result<(), Fail> {
-    let Some(calls) = wires.told() else {
+    let Some(calls) = wires.recorded_calls() else {
         return Err("untold calls".into());
     };
     let fair = fair_replies(alloc, servers, ME, calls)?;
@@ -275,14 +275,14 @@ fn judge_calls(
     Ok(())
 }
 
-/// Judges a run and its calls.
+/// Checks a run and its calls.
 fn judge(rt: &impl Abort, alloc: Global, case: &Case) -> Result<(), Fail> {
     let mut servers = served(alloc, CAMPUS)?;
     let mut wires = with_replies(alloc, &mut servers, case.replies)?;
     judge_over(rt, alloc, &mut wires, &mut servers, case)
 }
 
-/// Judges a run over these wires and its calls.
+/// Checks a run over these wires and its calls.
 fn judge_over(
     rt: &impl Abort,
     alloc: Global,

@@ -1,15 +1,15 @@
-//! A resolver that runs for ITRs, whose caller makes the turns: who waits, and whose lookup ends at a tick.
+//! A resolver that runs for ITRs, whose caller makes the turns: the ITRs that wait, and lookups that end at a tick.
 
 use crate::comparison::{holds, same};
 use crate::worlds::{ME, ROOT, moment, rooted};
 use ddt_cache::Entry;
 use ddt_examples::bytes_of;
 use ddt_examples::messages::ITR_REQUEST;
-use ddt_loop::{Came, Ended, RunningResolver};
+use ddt_loop::{Ended, PacketOutcome, RunningResolver};
 use ddt_path::Locator;
 use ddt_resolver::Why;
+use ddt_sockets::{Packet, WiresInMemory};
 use ddt_trie::ListMap;
-use ddt_wires::{Packet, WiresInMemory};
 use std::alloc::Global;
 use std::process::Abort;
 use std::test::Fail;
@@ -21,7 +21,7 @@ const ITR: Locator = Locator::V4(0x7f00_003c);
 
 const ITR_PORT: u16 = 50000;
 
-/// Lets a resolver take a message from an address and a port, in hexadecimal.
+/// Passes a resolver a message, in hexadecimal, from an address and a port.
 fn take(
     alloc: Global,
     running: &mut ListRunning,
@@ -29,7 +29,7 @@ fn take(
     millis: u64,
     source: (Locator, u16),
     message: &str,
-) -> Result<Came, Fail> {
+) -> Result<PacketOutcome, Fail> {
     let bytes = bytes_of(alloc, message)?;
     let packet = Packet {
         from: source.0,
@@ -59,7 +59,7 @@ fn itr_waits(
 ) -> Result<(), Fail> {
     let whole = bytes_of(alloc, ITR_REQUEST)?.len();
     let came = take(alloc, running, wires, 0, (ITR, ITR_PORT), ITR_REQUEST)?;
-    let waits = matches!(came, Came::Waits { ticket: 1, len } if len == whole);
+    let waits = matches!(came, PacketOutcome::Waits { ticket: 1, len } if len == whole);
     holds(rt, waits, &came);
     Ok(())
 }

@@ -1,31 +1,37 @@
-//! Wires in memory that hand what is sent to the socket that it is for.
+//! Wires in memory that deliver each datagram to the socket of its receiver.
 
 ghost use Rattle.std.specs.Prelude.{◌≤◌, length, IfOk, IfSome};
 
 use ddt_ecm::CONTROL_PORT;
 use ddt_path::{Listed, Locator};
-use ddt_wires::{NetFault, Packet, Waiting, Wires};
+use ddt_sockets::{NetFault, Packet, WaitingDatagram, Wires};
 use std::alloc::{AllocError, Global};
 
-/// A loopback network. What is sent to UDP port 4342 of an address waits at the socket there, from the socket that sent
-/// it; all that is sent is kept too. One call can be made to fail, which loses its datagram.
+/// A loopback network. A datagram to UDP port 4342 of an address waits at the socket there; all sent datagrams are
+/// kept, too. One call can be made to fail, which loses its datagram.
 #[derive(Drop)]
 pub struct Loopback {
     alloc: Global,
-    waiting: Vec<Waiting>,
-    sent: Vec<Waiting>,
-    /// How many calls were made, and how many of them polled a socket.
+    waiting: Vec<WaitingDatagram>,
+    sent: Vec<WaitingDatagram>,
+    /// The numbers of calls, and of polls among them.
     made: u64,
     polled: u64,
-    /// How many datagrams were to be sent before the first poll.
+    /// The number of datagrams that were to be sent before the first poll.
     sent_first: u64,
-    /// The number of the call that fails, the first being 1; with 0 none fails.
+    /// The number of the call that fails; the first is 1, and with 0 none fails.
     failing: u64,
 }
 
 /// A datagram with these bytes; None if out of memory.
-fn datagram(alloc: Global, at: Locator, from: Locator, port: u16, bytes: &[u8]) -> Option<Waiting> {
-    Some(Waiting {
+fn datagram(
+    alloc: Global,
+    at: Locator,
+    from: Locator,
+    port: u16,
+    bytes: &[u8],
+) -> Option<WaitingDatagram> {
+    Some(WaitingDatagram {
         at,
         from,
         port,
@@ -34,7 +40,7 @@ fn datagram(alloc: Global, at: Locator, from: Locator, port: u16, bytes: &[u8]) 
 }
 
 impl Loopback {
-    /// A network at which nothing waits, whose call of this number fails.
+    /// Creates a network at which nothing waits, whose call of this number fails.
     pub fn new(alloc: Global, failing: u64) -> Loopback {
         Loopback {
             alloc,
@@ -47,7 +53,7 @@ impl Loopback {
         }
     }
 
-    /// Lets a datagram wait behind the others. Fails only if out of memory.
+    /// Appends a datagram to those that wait. Fails only if out of memory.
     pub fn add(
         &mut self,
         at: Locator,
@@ -62,22 +68,22 @@ impl Loopback {
         Ok(())
     }
 
-    /// How many times a socket was polled.
+    /// The number of polls.
     pub fn polled(&self) -> u64 {
         self.polled
     }
 
-    /// How many datagrams were to be sent before the first poll.
+    /// The number of datagrams that were to be sent before the first poll.
     pub fn sent_first(&self) -> u64 {
         self.sent_first
     }
 
-    /// How many calls were made.
+    /// The number of calls.
     pub fn made(&self) -> u64 {
         self.made
     }
 
-    /// How many datagrams went to an address and a port there.
+    /// The number of datagrams that were sent to an address and port.
     pub fn count_to(&self, to: Locator, port: u16) -> usize {
         self.sent
             .as_slice()
@@ -86,7 +92,7 @@ impl Loopback {
             .count()
     }
 
-    /// Whether these bytes went from an address to another, at a port there.
+    /// Whether these bytes were sent from an address to another address and port.
     pub fn went(&self, from: Locator, to: Locator, port: u16, bytes: &[u8]) -> bool {
         self.sent.as_slice().iter().any(|d| d.from == from
             && d.at == to
@@ -94,19 +100,19 @@ impl Loopback {
             && d.bytes.as_slice() == bytes)
     }
 
-    /// Counts a call; whether it fails.
+    /// Counts a call, and returns whether it fails.
     fn fails(&mut self) -> bool {
         self.made = self.made.saturating_add(1);
         self.made == self.failing
     }
 
-    /// Takes the first datagram that waits at a socket.
-    fn take_at(&mut self, at: Locator) -> Option<Waiting> {
+    /// Removes the first datagram that waits at a socket.
+    fn take_at(&mut self, at: Locator) -> Option<WaitingDatagram> {
         let place = self.waiting.as_slice().iter().position(|w| w.at == at)?;
         Some(self.waiting.remove(place))
     }
 
-    /// Keeps what is sent, and lets it wait at its socket. Fails only if out of memory.
+    /// Keeps a sent datagram, and lets it wait at its socket. Fails only if out of memory.
     fn deliver(
         &mut self,
         at: Locator,
@@ -125,8 +131,8 @@ impl Loopback {
     }
 }
 
-/// Puts a datagram at the front of the buffer. One that is longer than the buffer is lost.
-fn put(datagram: Waiting, buffer: &mut [u8]) -> Result<Option<Packet>, NetFault>
+/// Writes a datagram to the front of the buffer. A datagram that is longer than the buffer is lost.
+fn put(datagram: WaitingDatagram, buffer: &mut [u8]) -> Result<Option<Packet>, NetFault>
     ensures { IfOk result (λ answer. IfSome answer (λ packet. packet.len ≤ length buffer.new)) }
 {
     let bytes = datagram.bytes.as_slice();

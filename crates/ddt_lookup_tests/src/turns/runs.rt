@@ -1,6 +1,6 @@
-//! Runs of some turns over the campus, with what goes over the wires.
+//! Runs of some turns over the campus, and the datagrams on the wires.
 
-use super::ends::judge_ends;
+use super::end_texts::judge_ends;
 use super::loopback::Loopback;
 use crate::comparison::holds;
 use crate::texts::{identifier, identifiers, judge_number, locator, locators, worded};
@@ -11,7 +11,7 @@ use ddt_examples::messages::{
 };
 use ddt_examples::registers::CAMPUS;
 use ddt_examples::{bytes_of, changed};
-use ddt_loop::{Clock, LoopEnd, StandingClock, SteppingClock, Tree, loop_turns};
+use ddt_loop::{Clock, FixedClock, LoopEnd, SocketMap, SteppingClock, loop_turns};
 use ddt_path::{Locator, Xeid};
 use std::alloc::Global;
 use std::process::Abort;
@@ -25,10 +25,10 @@ const ITR: &str = "127.0.0.60";
 
 const ITR_PORT: u16 = 50_000;
 
-/// What makes a request one from the ITR's port, without a UDP checksum: the port, and the checksum.
+/// The port of the ITR and an absent UDP checksum, which replace those of a request.
 const CHANGES: &[(usize, u8)] = &[(24, 0xc3), (25, 0x50), (30, 0), (31, 0)];
 
-/// As many turns as the program takes where nobody says how many.
+/// The number of turns that the program takes by default.
 const TURNS: u32 = 20_000;
 
 /// The bytes of a datagram.
@@ -39,10 +39,10 @@ enum Bytes {
     AskFor(&'static str),
 }
 
-/// A datagram that waits at the resolver: the address and the port that it came from, and its bytes.
+/// A datagram that waits at the resolver: its source address and port, and its bytes.
 struct Arrival(&'static str, u16, Bytes);
 
-/// What is counted after a run.
+/// The counts after a run.
 enum Count {
     /// The calls that the run made on the wires.
     Made,
@@ -50,12 +50,12 @@ enum Count {
     Polled,
     /// The lookups that are pending.
     Pending,
-    /// The datagrams that went to a server.
+    /// The datagrams that were sent to a server.
     To(&'static str),
 }
 
-/// A run of some turns: what waits before it, how many milliseconds each turn takes, the sockets and the identifiers.
-/// Then what the lookups end in, what is counted, and what the ITR has been sent so far, in hexadecimal.
+/// A run of some turns: the datagrams that wait before it, the milliseconds of each turn, the sockets and the
+/// identifiers. Then the ends of the lookups, the counts, and the datagrams sent to the ITR so far, in hexadecimal.
 struct Run {
     arrivals: &'static [Arrival],
     step: u64,
@@ -67,8 +67,8 @@ struct Run {
     itr: &'static [&'static str],
 }
 
-/// Runs by a new resolver whose first nonce is this one, over wires whose call of this number fails, the first being 1;
-/// with 0 none fails.
+/// Runs by a new resolver with this first nonce, over wires whose call of this number fails; the first is 1, and with 0
+/// none fails.
 struct Case {
     says: &'static str,
     nonce: u64,
@@ -315,7 +315,7 @@ struct World {
 }
 
 impl World {
-    /// With a new resolver whose first nonce is this one, and wires whose call of this number fails.
+    /// Creates a world with a new resolver with this first nonce, and wires whose call of this number fails.
     fn new(alloc: Global, nonce: u64, failing: u64) -> Result<World, Fail> {
         let itr = locator(ITR)?;
         let resolver = rooted(alloc, &[ROOT], nonce)?;
@@ -344,7 +344,7 @@ impl World {
         }
     }
 
-    /// Lets a datagram wait at the resolver.
+    /// Adds a datagram that waits at the resolver.
     fn arrives(&mut self, arrival: &Arrival) -> Result<(), Fail> {
         let from = locator(arrival.0)?;
         let bytes = self.bytes(&arrival.2)?;
@@ -357,7 +357,7 @@ impl World {
         let at = moment(0)?;
         let (next, step) = (at, run.step);
         if step == 0 {
-            self.ends_by(&mut StandingClock { at }, run)
+            self.ends_by(&mut FixedClock { at }, run)
         } else {
             self.ends_by(&mut SteppingClock { next, step }, run)
         }
@@ -381,7 +381,7 @@ impl World {
         Ok(loop_turns(
             &mut self.wires,
             clock,
-            &Tree {
+            &SocketMap {
                 me: ME,
                 sockets,
                 servers: &self.servers,
@@ -392,7 +392,7 @@ impl World {
         )?)
     }
 
-    /// What is counted after a run before which so many calls had been made.
+    /// The counts after a run that began after this number of calls.
     fn count(&self, count: &Count, before: u64) -> Result<u64, Fail> {
         match count {
             Count::Made => Ok(self.wires.made().wrapping_sub(before)),
@@ -402,19 +402,19 @@ impl World {
         }
     }
 
-    /// How many datagrams went to a server.
+    /// The number of datagrams that were sent to a server.
     fn count_to(&self, server: &str) -> Result<u64, Fail> {
         let to = locator(server)?;
         Ok(self.wires.count_to(to, CONTROL_PORT) as u64)
     }
 
-    /// Makes a run and judges its ends.
+    /// Makes a run and checks its ends.
     fn judge_run(&mut self, rt: &impl Abort, says: &str, run: &Run) -> Result<(), Fail> {
         let ends = self.ends_of(run)?;
         judge_ends(rt, self.alloc, says, &ends, run.ends)
     }
 
-    /// Judges what is counted.
+    /// Checks the counts.
     fn judge_counts(
         &self,
         rt: &impl Abort,
@@ -429,7 +429,7 @@ impl World {
         Ok(())
     }
 
-    /// Judges whether the ITR was sent this.
+    /// Checks whether the ITR was sent this datagram.
     fn judge_told(&self, rt: &impl Abort, says: &str, fields: &str) -> Result<(), Fail> {
         let bytes = bytes_of(self.alloc, fields)?;
         let went = self.wires.went(ME, self.itr, ITR_PORT, &bytes);
@@ -437,7 +437,7 @@ impl World {
         Ok(())
     }
 
-    /// Judges what the ITR was sent.
+    /// Checks the datagrams sent to the ITR.
     fn judge_itr(&self, rt: &impl Abort, says: &str, wanted: &[&str]) -> Result<(), Fail> {
         let count = self.wires.count_to(self.itr, ITR_PORT) as u64;
         judge_number(rt, says, count, wanted.len() as u64);
@@ -447,7 +447,7 @@ impl World {
         Ok(())
     }
 
-    /// Makes a run and judges all of it.
+    /// Makes a run and checks all of it.
     fn judge(&mut self, rt: &impl Abort, says: &str, run: &Run) -> Result<(), Fail> {
         for arrival in run.arrivals {
             self.arrives(arrival)?;
@@ -458,7 +458,7 @@ impl World {
         self.judge_itr(rt, says, run.itr)
     }
 
-    /// Makes the runs of a case and judges them.
+    /// Makes the runs of a case and checks them.
     fn judge_all(&mut self, rt: &impl Abort, case: &Case) -> Result<(), Fail> {
         for run in case.runs {
             self.judge(rt, case.says, run)?;
@@ -466,20 +466,20 @@ impl World {
         Ok(())
     }
 
-    /// Judges the run whose call of this number fails.
+    /// Checks the run whose call of this number fails.
     fn judge_with_failure(&mut self, rt: &impl Abort, failing: u64) -> Result<(), Fail> {
         let says = worded(self.alloc, "call", &failing)?;
         self.judge(rt, &says, &WITH_A_FAILURE)
     }
 }
 
-/// Makes the runs of a case and judges them.
+/// Makes the runs of a case and checks them.
 fn judge(rt: &impl Abort, alloc: Global, case: &Case) -> Result<(), Fail> {
     let mut world = World::new(alloc, case.nonce, case.failing)?;
     world.judge_all(rt, case)
 }
 
-/// Judges the run whose call of this number fails.
+/// Checks the run whose call of this number fails.
 fn judge_with_failure(rt: &impl Abort, alloc: Global, failing: u64) -> Result<(), Fail> {
     let mut world = World::new(alloc, 1, failing)?;
     world.judge_with_failure(rt, failing)

@@ -15,7 +15,7 @@ use ddt_check::{Fault, Rule};
 use ddt_path::{Locator, MOST_LOCATORS, Name, Prefix, Role, are_distinct, longest_match};
 use ddt_register::{Group, Register, Site, Zone};
 
-/// The rules in the order of their numbers.
+/// The rules in the order of their numbers, written out here so that nothing of the code decides what is compared.
 pub const RULES: &[Rule] = &[
     Rule::NoRoot,
     Rule::DuplicateZone,

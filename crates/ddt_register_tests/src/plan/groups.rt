@@ -46,7 +46,7 @@ group-node,,root,127.0.0.1
 node,*,root,
 ";
 
-/// A row of those two zones, what stands in its place, and a line for each group that changes.
+/// A row of those two zones, its replacement, and a line for each group that changes.
 const REPLACED: [(&str, &str, &str); 5] = [
     (
         "site,[0]10.3.2.0/24,,127.0.2.3 127.0.2.4\n",
@@ -69,7 +69,7 @@ const REPLACED: [(&str, &str, &str); 5] = [
         "group-ms,,east,127.0.1.2 127.0.1.1\n",
         "east changed\nroot changed\n",
     ),
-    // A zone goes from one group to another.
+    // A zone moves from one group to another.
     (
         "ms,[0]10.2.0.0/16,east,\n",
         "ms,[0]10.2.0.0/16,west,\n",

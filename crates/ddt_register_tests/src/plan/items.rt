@@ -236,7 +236,7 @@ fn items_differ(rt: HostRuntime) -> Result<(), Fail> {
     Ok(())
 }
 
-/// A row of each of these stands in a random register, in this order or the other way round.
+/// A row of each of these is in a random register, in this order or the reverse.
 const DRAWN: [[&str; 5]; 11] = [
     [
         "group-node,,root,127.0.0.1\n",

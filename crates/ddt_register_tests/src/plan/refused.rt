@@ -15,7 +15,7 @@ use std::alloc::{AllocError, Global};
 use std::process::Abort;
 use std::test::Fail;
 
-/// The register of a text, read once more where memory is refused, of which it tells no other fault.
+/// The register of a text, read again if memory was refused, which must be the only fault.
 fn register(rt: &impl Abort, alloc: Global, text: &str) -> Result<Register, Fail> {
     match read_register(alloc, text.as_bytes()) {
         Ok(register) => Ok(register),

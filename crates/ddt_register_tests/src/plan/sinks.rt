@@ -15,7 +15,7 @@ use std::test::Fail;
 #[derive(Clone, Copy, Debug, PartialEq, Eq)]
 struct Full;
 
-/// A sink that keeps the prefixes of so many items, and refuses all others.
+/// A sink that keeps the prefixes of a number of items, and refuses all others.
 #[derive(Drop)]
 struct Room {
     prefixes: Vec<Prefix>,

@@ -5,7 +5,7 @@ use Rattle.ddt_cache.specs.Moment.{last_moment}
 use Rattle.ddt_cache.specs.InOrder.{IsCacheInOrder as IsKnownInOrder}
 use Rattle.ddt_cache.specs.laws.Order.{moved_in_order, forgotten_in_order}
 use Rattle.ddt_resolver.specs.declared.pending.Pending.{Pending}
-use Rattle.ddt_resolver.specs.State.{State, last_nonce, most_pending, numbered, moved, lodged, dropped, forgotten, tried_again, at_next}
+use Rattle.ddt_resolver.specs.State.{State, last_nonce, most_pending, numbered, moved, request_sent, dropped, forgotten, tried_again, at_next}
 use Rattle.ddt_resolver.specs.declared.results.Ticked.{Ticked}
 use Rattle.ddt_resolver.specs.declared.step.Reply.{Reply}
 use Rattle.ddt_resolver.specs.TickStep.{GoOn, again, next_place, answered, no_reply, used_up, HastenStep, unknown, hastened}
@@ -119,10 +119,10 @@ pub order_hastened : (s : State) (nonce : ℕ) (new : State) (ticked : Ticked) �
 order_hastened s nonce new ticked o (unknown none e f) = rw e o
 order_hastened s nonce new ticked o (hastened t l here its on) = by on
   where
-    sent : (m : Pending) → IsLookup m → s.next < last_nonce → new ≡ lodged s t m → IsStateInOrder new
+    sent : (m : Pending) → IsLookup m → s.next < last_nonce → new ≡ request_sent s t m → IsStateInOrder new
     sent m is more e =
         let w : IsWaiting s t l = o.lookups t l here in
-        rw e (order_placed s o (lodged s t m) (omega arith) refl o.known t m is (omega (arith, w.ticket, w.nonce)) more
+        rw e (order_placed s o (request_sent s t m) (omega arith) refl o.known t m is (omega (arith, w.ticket, w.nonce)) more
         (rw (len_replaced s.pending t (numbered s m) l here) o.few) refl refl)
 
     gone : new ≡ dropped s t → IsStateInOrder new

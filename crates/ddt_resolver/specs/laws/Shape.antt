@@ -11,7 +11,7 @@ use Rattle.ddt_path.specs.declared.action.Action.TheVariants.{NodeReferral, MsRe
 use Rattle.ddt_path.specs.declared.record.ReferralRecord.{ReferralRecord}
 use Rattle.ddt_path.specs.Path.{xeid_path, is_path}
 use Rattle.ddt_path.specs.Covers.{covers}
-use Rattle.ddt_cache.specs.declared.entry.Entry.{Entry}
+use Rattle.ddt_cache.specs.declared.cache_entry.Entry.{Entry}
 use Rattle.ddt_cache.specs.Entry.{is_positive}
 use Rattle.ddt_cache.specs.Found.{IsFound}
 use Rattle.ddt_cache.specs.Live.{Known}
@@ -32,12 +32,12 @@ use Rattle.ddt_resolver.specs.declared.results.Why.TheVariants.{NoReply, Loop, N
 use Rattle.ddt_resolver.specs.declared.step.Reply.{Reply}
 use Rattle.ddt_resolver.specs.declared.step.Reply.TheVariants.{ToAsk, ToDatagram, ToTick}
 use Rattle.ddt_resolver.specs.declared.step.Progress.TheVariants.{Stays, Sends, Ends}
-use Rattle.ddt_resolver.specs.State.{State, last_nonce, most_pending, request, numbered, lodged, dropped, stored, opening, referred, passed_on, started_over, tried_again, at_next}
+use Rattle.ddt_resolver.specs.State.{State, last_nonce, most_pending, request, numbered, request_sent, dropped, stored, opening, referred, passed_on, started_over, tried_again, at_next}
 use Rattle.ddt_path.specs.Actions.{IsReferral}
 use Rattle.ddt_resolver.specs.Records.{IsAbout, IsBelow, negative_answer, outcome_of, start_at}
 use Rattle.ddt_resolver.specs.AskStep.{answer_of, AskStep}
 use Rattle.ddt_resolver.specs.AskStep as ask
-use Rattle.ddt_resolver.specs.TakeUp.{IsTaken}
+use Rattle.ddt_resolver.specs.MatchReply.{IsTaken}
 use Rattle.ddt_resolver.specs.Act.{Act, HearStep, MayStartOver}
 use Rattle.ddt_resolver.specs.Act as act
 use Rattle.ddt_resolver.specs.TickStep.{GoOn, IsDue, TickStep}
@@ -60,8 +60,8 @@ pub record Takes (s : State) (call : ResolverCall) (t : ℕ) (l : Pending) (rec 
 pub record IsLastDue (s : State) (call : ResolverCall) (l : Pending) : Type 0 where
   pub called : call ≡ Tick
   pub over : l.deadline ≤ s.known.time
-  pub second : l.second ≡ true
-  pub at_end : length l.servers ≤ l.place + 1
+  pub second : l.is_retry ≡ true
+  pub at_end : length l.servers ≤ l.server_index + 1
 
 -- Why a lookup ends. `by_record`: with the outcome of a final record. `by_kept`: no server is left, and one of the set
 -- has said that the site isn't registered. `by_loop`: at a referral that isn't below the saved prefix. `by_nobody`: at a
@@ -69,20 +69,20 @@ pub record IsLastDue (s : State) (call : ResolverCall) (l : Pending) : Type 0 wh
 -- on, but no nonce is left.
 pub data Leaves (s : State) (call : ResolverCall) (t : ℕ) (l : Pending) (end : Result Outcome Why) : Type 0 where
   by_record : (rec : ReferralRecord) → Takes s call t l rec → IsFinal rec.action → end ≡ Ok (outcome_of rec) → Leaves s call t l end
-  by_kept : (rec : ReferralRecord) → IsLastDue s call l → l.kept ≡ Some rec → end ≡ Ok (NotRegistered rec.prefix rec.servers) → Leaves s call t l end
-  by_loop : (rec : ReferralRecord) → Takes s call t l rec → IsReferral rec.action → (IsBelow l.saved rec.prefix → ⊥) → end ≡ Err Loop → Leaves s call t l end
+  by_kept : (rec : ReferralRecord) → IsLastDue s call l → l.last_not_registered ≡ Some rec → end ≡ Ok (NotRegistered rec.prefix rec.servers) → Leaves s call t l end
+  by_loop : (rec : ReferralRecord) → Takes s call t l rec → IsReferral rec.action → (IsBelow l.last_referral rec.prefix → ⊥) → end ≡ Err Loop → Leaves s call t l end
   by_nobody : (rec : ReferralRecord) → Takes s call t l rec → rec.action ≡ NotAuthoritative → ((p : List ℕ) → MayStartOver l p → ⊥) → end ≡ Err NobodyInCharge → Leaves s call t l end
-  by_silence : IsLastDue s call l → l.kept ≡ None → end ≡ Err NoReply → Leaves s call t l end
+  by_silence : IsLastDue s call l → l.last_not_registered ≡ None → end ≡ Err NoReply → Leaves s call t l end
   by_nonce : s.next ≡ last_nonce → end ≡ Err Exhausted → Leaves s call t l end
 
 -- How a lookup goes on: at a new set, at the next server after an MS-NOT-REGISTERED, at the same server again, or at the
 -- next one without a reply.
 pub data Goes (s : State) (call : ResolverCall) (reply : Reply) (t : ℕ) (l new : Pending) : Type 0 where
-  anew : reply ≡ ToDatagram (heard.Followed t (request s new)) → new.place ≡ 0 → new.second ≡ false → new.kept ≡ None → Goes s call reply t l new
+  anew : reply ≡ ToDatagram (heard.Followed t (request s new)) → new.server_index ≡ 0 → new.is_retry ≡ false → new.last_not_registered ≡ None → Goes s call reply t l new
   keeps : (source : Locator) (bytes : List ℕ) (rec : ReferralRecord) → call ≡ Hear source bytes → IsTaken s source bytes t l rec
       → reply ≡ ToDatagram (heard.Followed t (request s new)) → new ≡ passed_on l rec → Goes s call reply t l new
-  repeats : reply ≡ ToTick (ticked.Sent t (request s new)) → l.deadline ≤ s.known.time → l.second ≡ false → new ≡ tried_again l → Goes s call reply t l new
-  goes_on : reply ≡ ToTick (ticked.Sent t (request s new)) → l.deadline ≤ s.known.time → l.second ≡ true → l.place + 1 < length l.servers → new ≡ at_next l → Goes s call reply t l new
+  repeats : reply ≡ ToTick (ticked.Sent t (request s new)) → l.deadline ≤ s.known.time → l.is_retry ≡ false → new ≡ tried_again l → Goes s call reply t l new
+  goes_on : reply ≡ ToTick (ticked.Sent t (request s new)) → l.deadline ≤ s.known.time → l.is_retry ≡ true → l.server_index + 1 < length l.servers → new ≡ at_next l → Goes s call reply t l new
 
 -- it sends its next request
 pub goes_sends : (s : State) (call : ResolverCall) (reply : Reply) (t : ℕ) (l new : Pending) → Goes s call reply t l new → progress_of reply ≡ Sends t (request s new)
@@ -94,7 +94,7 @@ goes_sends s call reply t l new (goes_on f over second more e) = ap progress_of 
 -- What a step does to the pending lookups, by its progress.
 pub data Move (s : State) (call : ResolverCall) (new : State) (reply : Reply) : Type 0 where
   stays : new.pending ≡ s.pending → new.next ≡ s.next → progress_of reply ≡ Stays → Move s call new reply
-  opens : (l : Pending) → call ≡ Ask l.x → l.place ≡ 0 → l.second ≡ false → l.kept ≡ None → l.saved ≡ None → IsLookup l → s.next < last_nonce
+  opens : (l : Pending) → call ≡ Ask l.x → l.server_index ≡ 0 → l.is_retry ≡ false → l.last_not_registered ≡ None → l.last_referral ≡ None → IsLookup l → s.next < last_nonce
       → len s.pending < most_pending
       → new.pending ≡ insert s.pending s.next (numbered s l) → new.next ≡ s.next + 1 → reply ≡ ToAsk (Ok (asked.Sent s.next (request s l))) → Move s call new reply
   sends : (t : ℕ) (old l : Pending) → get s.pending t ≡ Some old → l.x ≡ old.x → Goes s call reply t old l → IsLookup l → s.next < last_nonce
@@ -189,7 +189,7 @@ module _ (s : State) (o : IsStateInOrder s) (t : ℕ) (l : Pending) (here : get 
           once = w.once;
         }
 
-    pub passed_lookup : rec.action ≡ MsNotRegistered → l.place + 1 < length l.servers → IsLookup (passed_on l rec)
+    pub passed_lookup : rec.action ≡ MsNotRegistered → l.server_index + 1 < length l.servers → IsLookup (passed_on l rec)
     passed_lookup a more =
         let w = waiting.lookup in
         let covered = about_covers rec (xeid_path l.x) is.about (λ no. cc (a, no)) in
@@ -234,7 +234,7 @@ module _ (s : State) (o : IsStateInOrder s) (t : ℕ) (l : Pending) (here : get 
     once = w.once;
   }
 
-  pub next_lookup : l.place + 1 < length l.servers → IsLookup (at_next l)
+  pub next_lookup : l.server_index + 1 < length l.servers → IsLookup (at_next l)
   next_lookup more = let w = waiting.lookup in record {
     identifier = w.identifier;
     place = more;
@@ -273,7 +273,7 @@ module _ (s : State) (o : IsStateInOrder s) (call : ResolverCall) (new : State) 
     dropping : (end : Result Outcome Why) → new ≡ dropped s t → progress_of a ≡ Ends t end → Leaves s call t l end → IsMoved s call new a
     dropping end is ends leaves = rw is (record { time = refl; me = refl; roots = refl; known = o.known; move = drops t l end here refl refl ends leaves })
 
-    sending : (k : Known) (m : Pending) → k.time ≡ s.known.time → k.roots ≡ s.known.roots → IsKnownInOrder k → new ≡ record (lodged s t m) { known = k } → m.x ≡ l.x
+    sending : (k : Known) (m : Pending) → k.time ≡ s.known.time → k.roots ≡ s.known.roots → IsKnownInOrder k → new ≡ record (request_sent s t m) { known = k } → m.x ≡ l.x
         → Goes s call a t l m → IsLookup m → s.next < last_nonce → IsMoved s call new a
     sending k m time roots known e same goes is more = rw e (record { time = time; me = refl; roots = roots; known = known; move = sends t l m here same goes is more refl refl })
 

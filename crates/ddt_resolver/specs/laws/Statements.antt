@@ -10,7 +10,7 @@ use Rattle.ddt_resolver.specs.declared.results.Heard.{Heard}
 use Rattle.ddt_resolver.specs.declared.results.Ticked.{Ticked}
 use Rattle.ddt_resolver.specs.State.{State, moved, server}
 use Rattle.ddt_resolver.specs.Records.{IsAbout, NamesServer}
-use Rattle.ddt_resolver.specs.TakeUp.{TellsReply}
+use Rattle.ddt_resolver.specs.MatchReply.{TellsReply}
 use Rattle.ddt_resolver.specs.Act.{Act, HearStep}
 use Rattle.ddt_resolver.specs.TickStep.{HastenStep}
 use Rattle.ddt_resolver.specs.declared.step.Reply.{Reply}

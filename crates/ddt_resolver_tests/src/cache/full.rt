@@ -1,4 +1,4 @@
-//! A full cache: one entry more finds room only where one has ended, and is then saved without a walk over all of them.
+//! A full cache: one more entry finds room only if one has ended, and is then saved without a walk over all entries.
 
 use super::plain::Plain;
 use super::{

@@ -1,4 +1,4 @@
-//! A plain cache, to compare with: its live entries in a list, each call a walk over all of them.
+//! A plain cache for comparison: its live entries are in a list, and each call walks over all of them.
 
 use ddt_cache::{Entry, Saved};
 use ddt_path::{Action, LocatorSet, Prefix, ReferralRecord, Xeid};
@@ -9,12 +9,12 @@ use std::alloc::{AllocError, Global};
 pub struct Plain {
     time: u64,
     live: Vec<(Prefix, Entry)>,
-    /// How many entries more are live at all times, of prefixes that no call names.
+    /// The number of further entries that are always live, of prefixes that no call names.
     others: usize,
     roots: LocatorSet,
 }
 
-/// How many minutes a record of an action is kept at most.
+/// The most minutes for which a record of an action is kept.
 fn minutes(action: Action) -> u64 {
     match action {
         Action::NodeReferral => 1440,
@@ -52,7 +52,7 @@ impl Plain {
         }
     }
 
-    /// The time goes on to a moment, in milliseconds, and what has ended is dropped.
+    /// Moves the time to a moment, in milliseconds, and removes what has ended.
     pub fn advance(&mut self, now: u64) {
         if now > self.time {
             self.time = now;
@@ -61,12 +61,12 @@ impl Plain {
         self.live.retain(|entry| entry.1.end > time);
     }
 
-    /// How many entries are live.
+    /// The number of live entries.
     pub fn len(&self) -> usize {
         self.live.len().saturating_add(self.others)
     }
 
-    /// The place of the entry of a prefix.
+    /// The index of the entry of a prefix.
     fn place(&self, prefix: Prefix) -> Option<usize> {
         self.live.iter().position(|entry| entry.0 == prefix)
     }
@@ -90,7 +90,7 @@ impl Plain {
         Ok(Saved::Saved)
     }
 
-    /// Drops the entry of a prefix; whether there was one.
+    /// Removes the entry of a prefix, and returns whether there was one.
     pub fn forget(&mut self, prefix: Prefix) -> bool {
         match self.place(prefix) {
             Some(place) => {
@@ -103,7 +103,7 @@ impl Plain {
         }
     }
 
-    /// The place of the longest prefix that covers the identifier.
+    /// The index of the longest prefix that covers the identifier.
     fn longest(&self, x: Xeid) -> Option<usize> {
         let mut best: Option<usize> = None;
         let mut len = 0;

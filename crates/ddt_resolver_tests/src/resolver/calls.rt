@@ -1,4 +1,4 @@
-//! Calls on a resolver as rows of a table, each with the line that it is to give and how many lookups are pending then.
+//! Calls on a resolver as rows of a table, each with its expected line and the number of pending lookups after it.
 
 use super::lines::{asked_text, heard_text, ticked_text};
 use crate::comparison::same;
@@ -22,44 +22,44 @@ pub const ROOT: Locator = Locator::V4(0x7f00_0001);
 
 pub const TEN: Locator = Locator::V4(0x7f00_000a);
 
-/// What a Map-Referral says; the prefix is a text. Its TTL is a day.
+/// The record of a Map-Referral; the prefix is a text. Its TTL is a day.
 #[derive(Clone, Copy)]
-pub struct Told {
+pub struct SampleReferral {
     pub action: Action,
     pub prefix: &'static str,
     pub servers: &'static [Locator],
 }
 
 /// The referral of 10.0.0.0/8 to 127.0.0.10.
-pub const TO_TEN: Told = Told {
+pub const TO_TEN: SampleReferral = SampleReferral {
     action: Action::NodeReferral,
     prefix: "[0]10.0.0.0/8",
     servers: &[TEN],
 };
 
 /// A referral of another child of the root to the same server.
-pub const TO_ELEVEN: Told = Told {
+pub const TO_ELEVEN: SampleReferral = SampleReferral {
     action: Action::NodeReferral,
     prefix: "[0]11.0.0.0/8",
     servers: &[TEN],
 };
 
 /// A referral that names no server.
-pub const TO_NO_SERVER: Told = Told {
+pub const TO_NO_SERVER: SampleReferral = SampleReferral {
     action: Action::NodeReferral,
     prefix: "[0]10.0.0.0/8",
     servers: &[],
 };
 
 /// A referral to the same prefix as before, which names the root's server.
-pub const BACK_TO_THE_ROOT: Told = Told {
+pub const BACK_TO_THE_ROOT: SampleReferral = SampleReferral {
     action: Action::NodeReferral,
     prefix: "[0]10.0.0.0/8",
     servers: &[ROOT],
 };
 
-/// A server that isn't in charge of the worked identifier.
-pub const NOT_IN_CHARGE: Told = Told {
+/// The NOT-AUTHORITATIVE of a server for the worked identifier.
+pub const NOT_IN_CHARGE: SampleReferral = SampleReferral {
     action: Action::NotAuthoritative,
     prefix: "[0]10.1.2.3/32",
     servers: &[],
@@ -71,13 +71,13 @@ pub enum Call {
     /// An ask for the identifier of a text.
     Ask(&'static str),
     /// A Map-Referral from a source under a nonce.
-    Hear(Locator, u64, Told),
+    Hear(Locator, u64, SampleReferral),
     /// The same without its last byte.
-    HearCut(Locator, u64, Told),
+    HearCut(Locator, u64, SampleReferral),
     Tick,
 }
 
-/// A call at a moment, in milliseconds, the line that it gives, and how many lookups are pending then.
+/// A call at a moment, in milliseconds, its line, and the number of pending lookups after it.
 pub type Step = (u64, Call, &'static str, usize);
 
 /// The moment of so many milliseconds.
@@ -106,7 +106,7 @@ pub fn rooted(alloc: Global, seed: u64) -> Result<ListResolver, Fail> {
 }
 
 /// The record of a Map-Referral.
-pub fn referral_record(told: &Told) -> Result<ReferralRecord, Fail> {
+pub fn referral_record(told: &SampleReferral) -> Result<ReferralRecord, Fail> {
     Ok(ReferralRecord {
         action: told.action,
         prefix: parse_prefix(told.prefix.as_bytes())?,
@@ -117,11 +117,11 @@ pub fn referral_record(told: &Told) -> Result<ReferralRecord, Fail> {
 }
 
 /// The bytes of a Map-Referral.
-pub fn referral_bytes(alloc: Global, nonce: u64, told: &Told) -> Result<Vec<u8>, Fail> {
+pub fn referral_bytes(alloc: Global, nonce: u64, told: &SampleReferral) -> Result<Vec<u8>, Fail> {
     Ok(write_referral(alloc, nonce, &referral_record(told)?)?)
 }
 
-/// Asks at a moment, in milliseconds, and answers the line of what comes of it.
+/// Asks at a moment, in milliseconds, and returns the line of the result.
 pub fn ask(
     alloc: Global,
     resolver: &mut ListResolver,
@@ -132,7 +132,7 @@ pub fn ask(
     asked_text(alloc, &resolver.ask(at(millis)?, x))
 }
 
-/// Hands the resolver a datagram at a moment, in milliseconds, and answers the line of what comes of it.
+/// Hands over a datagram at a moment, in milliseconds, and returns the line of the result.
 pub fn hear(
     alloc: Global,
     resolver: &mut ListResolver,
@@ -144,13 +144,13 @@ pub fn hear(
     heard_text(alloc, &heard)
 }
 
-/// Ticks at a moment, in milliseconds, and answers the line of what comes of it.
+/// Ticks at a moment, in milliseconds, and returns the line of the result.
 pub fn tick(alloc: Global, resolver: &mut ListResolver, millis: u64) -> Result<String, Fail> {
     let ticked = resolver.tick(at(millis)?)?;
     ticked_text(alloc, &ticked)
 }
 
-/// Tells a resolver of the Map-Referral of these bytes without the last one.
+/// Hands over the Map-Referral of these bytes without the last one.
 fn hear_cut(
     alloc: Global,
     resolver: &mut ListResolver,
@@ -162,7 +162,7 @@ fn hear_cut(
     hear(alloc, resolver, millis, from, front)
 }
 
-/// Makes a call, and answers its line.
+/// Makes a call, and returns its line.
 pub fn made(
     alloc: Global,
     resolver: &mut ListResolver,
@@ -185,7 +185,7 @@ pub fn made(
 
 // Each call is made, and what comes of it is judged, in a function of its own, so that the proof of a test is short.
 
-/// Makes a call, which is to give this line.
+/// Makes a call, and asserts its line.
 pub fn gives(
     alloc: Global,
     rt: &impl Abort,
@@ -199,17 +199,17 @@ pub fn gives(
     Ok(())
 }
 
-/// What is given is this line.
+/// Asserts a line.
 pub fn judge_line(rt: &impl Abort, name: &str, given: &str, line: &str) {
     same(rt, &given, &line, &name);
 }
 
-/// So many lookups are pending after a line.
+/// Asserts the number of pending lookups after a line.
 pub fn has_pending(rt: &impl Abort, resolver: &ListResolver, name: &str, line: &str, count: usize) {
     same(rt, &resolver.pending(), &count, &(name, line));
 }
 
-/// Makes the calls of a table in their order; each is to give its line.
+/// Makes the calls of a table in order, and asserts the line of each.
 pub fn plays(
     alloc: Global,
     rt: &impl Abort,

@@ -3,8 +3,8 @@
 //! answer as one that didn't hear the reply.
 
 use super::calls::{
-    BACK_TO_THE_ROOT, Call, ListResolver, NOT_IN_CHARGE, ROOT, Step, TEN, TO_ELEVEN, TO_NO_SERVER,
-    TO_TEN, Told, at, gives, has_pending, made, plays, rooted,
+    BACK_TO_THE_ROOT, Call, ListResolver, NOT_IN_CHARGE, ROOT, SampleReferral, Step, TEN,
+    TO_ELEVEN, TO_NO_SERVER, TO_TEN, at, gives, has_pending, made, plays, rooted,
 };
 use super::limits::{is_cancelled, open_many, opened, server_asked};
 use crate::comparison::{holds, same};
@@ -218,13 +218,13 @@ fn begin(
     Ok(())
 }
 
-const TO_EVERYTHING: Told = Told {
+const TO_EVERYTHING: SampleReferral = SampleReferral {
     action: Action::NodeReferral,
     prefix: "*",
     servers: &[TEN],
 };
 
-const BELOW_TEN: Told = Told {
+const BELOW_TEN: SampleReferral = SampleReferral {
     action: Action::NodeReferral,
     prefix: "[0]10.0.0.0/9",
     servers: &[TEN],
@@ -237,7 +237,7 @@ fn ends_below(
     rt: &impl Abort,
     name: &str,
     pair: &mut Pair,
-    reply: (Locator, u64, Told),
+    reply: (Locator, u64, SampleReferral),
 ) -> Result<(), Fail> {
     let (from, nonce, told) = reply;
     let next = nonce.saturating_add(1);

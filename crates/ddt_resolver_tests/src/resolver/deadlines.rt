@@ -1,13 +1,13 @@
-//! The least deadline of the pending lookups, which a caller may sleep until.
+//! The least deadline of the pending lookups, until which a caller may sleep.
 
-use super::calls::{Call, ListResolver, ROOT, TO_TEN, Told, made, rooted};
+use super::calls::{Call, ListResolver, ROOT, SampleReferral, TO_TEN, made, rooted};
 use crate::comparison::same;
 use ddt_path::Action;
 use std::alloc::Global;
 use std::process::Abort;
 use std::test::Fail;
 
-const HOLE_OF_ELEVEN: Told = Told {
+const HOLE_OF_ELEVEN: SampleReferral = SampleReferral {
     action: Action::DelegationHole,
     servers: &[],
     prefix: "[0]11.0.0.0/8",

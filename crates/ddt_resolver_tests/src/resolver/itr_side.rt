@@ -1,4 +1,4 @@
-//! What an ITR asks of a resolver, and the negative Map-Reply to it.
+//! The Map-Request of an ITR to a resolver, and the negative Map-Reply to it.
 
 use crate::comparison::{holds, same};
 use ddt_examples::messages::{DDT_REQUEST, ITR_REQUEST, NEGATIVE_REPLY};

@@ -1,6 +1,8 @@
 //! The last nonces, and the most lookups that may be pending.
 
-use super::calls::{Call, ListResolver, ROOT, Step, TO_TEN, Told, at, has_pending, plays, rooted};
+use super::calls::{
+    Call, ListResolver, ROOT, SampleReferral, Step, TO_TEN, at, has_pending, plays, rooted,
+};
 use crate::comparison::{holds, same};
 use ddt_path::{Action, Locator, Xeid};
 use ddt_resolver::{Asked, MOST_PENDING, Ticket};
@@ -15,7 +17,7 @@ const LAST: u64 = u64::MAX - 1;
 const LAST_BUT_ONE: u64 = u64::MAX - 2;
 
 /// A hole that takes the place of the referral in the table.
-const HOLE_OF_TEN: Told = Told {
+const HOLE_OF_TEN: SampleReferral = SampleReferral {
     action: Action::DelegationHole,
     servers: &[],
     prefix: "[0]10.0.0.0/8",
@@ -177,7 +179,7 @@ fn no_more_than_1024_lookups_are_pending(rt: HostRuntime) -> Result<(), Fail> {
     refuse_one_more(rt.alloc(), &rt, &mut resolver)
 }
 
-const HOLE_OF_THE_FIRST: Told = Told {
+const HOLE_OF_THE_FIRST: SampleReferral = SampleReferral {
     action: Action::DelegationHole,
     servers: &[],
     prefix: "[0]0.0.0.0/8",

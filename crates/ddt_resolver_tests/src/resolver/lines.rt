@@ -1,4 +1,4 @@
-//! What a call on a resolver came to, as a line. Want of memory is an error of its own.
+//! The result of a call on a resolver, as a line. Out of memory is an error of its own.
 
 use ddt_ecm::{CONTROL_PORT, Request, read_request};
 use ddt_lines::outcome_line;
@@ -52,7 +52,7 @@ fn answer_text(alloc: Global, ticket: Ticket, outcome: &Outcome) -> Result<Strin
     Ok(format!(in alloc; "ticket {ticket} {outcome}")?)
 }
 
-/// What an ask came to: a request, an outcome, or `refused 1 TooMany`.
+/// The result of an ask: a request, an outcome, or `refused 1 TooMany`.
 pub fn asked_text(alloc: Global, asked: &Result<Asked, AskError>) -> Result<String, Fail> {
     match asked {
         Ok(Asked::Sent(ticket, sent)) => request_text(alloc, *ticket, sent),
@@ -62,7 +62,7 @@ pub fn asked_text(alloc: Global, asked: &Result<Asked, AskError>) -> Result<Stri
     }
 }
 
-/// What a datagram came to: a request, an outcome, `ticket 1 gave up 2 Loop`, or `ignored 4 Late`.
+/// The result of a datagram: a request, an outcome, `ticket 1 gave up 2 Loop`, or `ignored 4 Late`.
 pub fn heard_text(alloc: Global, heard: &Heard) -> Result<String, Fail> {
     match heard {
         Heard::Followed(ticket, sent) => request_text(alloc, *ticket, sent),
@@ -74,7 +74,7 @@ pub fn heard_text(alloc: Global, heard: &Heard) -> Result<String, Fail> {
     }
 }
 
-/// What a tick came to: a request, an outcome, `ticket 1 gave up 1 NoReply`, or `nothing`.
+/// The result of a tick: a request, an outcome, `ticket 1 gave up 1 NoReply`, or `nothing`.
 pub fn ticked_text(alloc: Global, ticked: &Ticked) -> Result<String, Fail> {
     match ticked {
         Ticked::Sent(ticket, sent) => request_text(alloc, *ticket, sent),

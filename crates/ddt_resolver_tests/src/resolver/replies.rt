@@ -1,8 +1,8 @@
 //! Replies to a lookup that waits for 127.0.0.10. Each case begins with a resolver of its own.
 
 use super::calls::{
-    BACK_TO_THE_ROOT, Call, ListResolver, NOT_IN_CHARGE, ROOT, Step, TEN, TO_ELEVEN, TO_NO_SERVER,
-    TO_TEN, Told, hear, judge_line, plays, referral_bytes, rooted,
+    BACK_TO_THE_ROOT, Call, ListResolver, NOT_IN_CHARGE, ROOT, SampleReferral, Step, TEN,
+    TO_ELEVEN, TO_NO_SERVER, TO_TEN, hear, judge_line, plays, referral_bytes, rooted,
 };
 use ddt_examples::with_locator;
 use ddt_path::{Action, Locator};
@@ -34,7 +34,7 @@ pub fn waiting(alloc: Global, rt: &impl Abort) -> Result<ListResolver, Fail> {
 }
 
 /// A referral to a longer prefix than that of `TO_TEN`.
-const BELOW_TEN: Told = Told {
+const BELOW_TEN: SampleReferral = SampleReferral {
     action: Action::NodeReferral,
     prefix: "[0]10.0.0.0/9",
     servers: &[ROOT],
@@ -301,7 +301,7 @@ fn a_referral_to_the_same_prefix_is_a_loop(rt: HostRuntime) -> Result<(), Fail> 
 }
 
 /// A referral of 10.1.0.0/16 to eight servers.
-const TO_EIGHT: Told = Told {
+const TO_EIGHT: SampleReferral = SampleReferral {
     action: Action::NodeReferral,
     prefix: "[0]10.1.0.0/16",
     servers: &[

@@ -1,8 +1,8 @@
-//! The same calls as steps: each gives the line of its call, and says what it makes of the pending lookups.
+//! The same calls as steps: each gives the line of its call, and the progress of the pending lookups.
 
 use super::calls::{
-    BACK_TO_THE_ROOT, Call, ListResolver, ROOT, TEN, TO_TEN, Told, at, judge_line, referral_bytes,
-    rooted,
+    BACK_TO_THE_ROOT, Call, ListResolver, ROOT, SampleReferral, TEN, TO_TEN, at, judge_line,
+    referral_bytes, rooted,
 };
 use super::lines::{asked_text, heard_text, ticked_text};
 use ddt_examples::front;
@@ -13,13 +13,13 @@ use std::alloc::Global;
 use std::process::Abort;
 use std::test::Fail;
 
-const HOLE_OF_ELEVEN: Told = Told {
+const HOLE_OF_ELEVEN: SampleReferral = SampleReferral {
     action: Action::DelegationHole,
     servers: &[],
     prefix: "[0]11.0.0.0/8",
 };
 
-/// A call at a moment, in milliseconds, the line of its reply, and what it makes of the pending lookups.
+/// A call at a moment, in milliseconds, the line of its reply, and the progress of the pending lookups.
 type Row = (u64, Call, &'static str, &'static str);
 
 const STEPS: &[Row] = &[
@@ -87,7 +87,7 @@ const STEPS: &[Row] = &[
     ),
 ];
 
-/// What a step replied, as the line of its call.
+/// The reply of a step, as the line of its call.
 fn reply_text(alloc: Global, reply: &Reply) -> Result<String, Fail> {
     match reply {
         Reply::ToAsk(asked) => asked_text(alloc, asked),
@@ -96,7 +96,7 @@ fn reply_text(alloc: Global, reply: &Reply) -> Result<String, Fail> {
     }
 }
 
-/// What a step made of the pending lookups.
+/// The progress of the pending lookups in a step.
 fn progress_text(alloc: Global, progress: &Progress) -> Result<String, Fail> {
     match progress {
         Progress::Stays => Ok(format!(in alloc; "stays")?),
@@ -146,7 +146,7 @@ fn stepped(
     }
 }
 
-/// Does the step of a row, which gives its line and says what it makes of the lookups.
+/// Does the step of a row, and asserts its line and its progress.
 fn gives(
     alloc: Global,
     rt: &impl Abort,

@@ -2,9 +2,9 @@
 
 use crate::comparison::same;
 use ddt_check::Rule;
-use ddt_faults::{Broken, broken_rules};
-use ddt_path::{Listed, Locator, Prefix};
-use ddt_register::{Register, Site};
+use ddt_path::{Locator, Prefix};
+use ddt_register::{Etrs, Register, Site};
+use ddt_review::faults::{Broken, broken_rules};
 use std::alloc::Global;
 use std::process::Abort;
 use std::test::Fail;
@@ -16,7 +16,7 @@ fn full(alloc: Global, rt: &impl Abort) -> Register {
         let address = Locator::V4(row / 2);
         let site = Site {
             prefix: Prefix::block(7, address, 32).expect(rt, "a prefix"),
-            etrs: Listed::of(Vec::new(alloc)),
+            etrs: Etrs::of(Vec::new(alloc)),
             row,
         };
         sites.push(site).ok().expect(rt, "out of memory");

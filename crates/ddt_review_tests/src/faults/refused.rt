@@ -5,8 +5,8 @@
 use crate::comparison::same;
 use ddt_check::Rule;
 use ddt_examples::registers::COLUMNS;
-use ddt_faults::{Broken, broken_rules};
 use ddt_register::{ReadFault, Register, read_register};
+use ddt_review::faults::{Broken, broken_rules};
 use std::alloc::{AllocError, Global};
 use std::process::Abort;
 use std::test::Fail;
@@ -23,7 +23,7 @@ site,[0]10.1.0.0/16,,
 site,[0]11.0.0.0/8,,
 ";
 
-/// The register of these rows, read once more where memory is refused, of which it tells no other fault.
+/// The register of these rows, read again if memory was refused, which must be the only fault.
 fn register(rt: &impl Abort, alloc: Global) -> Result<Register, Fail> {
     let text = written(alloc)?;
     match read_register(alloc, text.as_bytes()) {

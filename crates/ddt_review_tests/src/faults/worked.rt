@@ -1,38 +1,38 @@
-//! What is told of worked registers: each rule, and its other row.
+//! The broken rules of worked registers: each rule, and its other row.
 
 use crate::comparison::same;
 use ddt_check::Rule;
 use ddt_examples::registers::{CAMPUS, COLUMNS, NESTED_SITES};
-use ddt_faults::broken_rules;
 use ddt_register::read_register;
+use ddt_review::faults::broken_rules;
 use std::alloc::Global;
 use std::process::Abort;
 use std::test::Fail;
 
 /// A row, a rule that it breaks, and the other row.
-type Told = (u32, Rule, Option<u32>);
+type BrokenAt = (u32, Rule, Option<u32>);
 
-/// What is told of the rows behind some others.
-fn told(alloc: Global, rt: &impl Abort, first: &str, more: &str) -> Vec<Told> {
+/// The broken rules of a register of some rows followed by others.
+fn broken_at(alloc: Global, rt: &impl Abort, first: &str, more: &str) -> Vec<BrokenAt> {
     let mut text = String::from_str(alloc, first).expect(rt, "out of memory");
     text.push_str(more).expect(rt, "out of memory");
     let register = read_register(alloc, text.as_bytes()).expect(rt, "a register");
-    let list = broken_rules(alloc, &register).expect(rt, "out of memory");
-    let mut told = Vec::new(alloc);
-    for broken in &list {
+    let broken_list = broken_rules(alloc, &register).expect(rt, "out of memory");
+    let mut list = Vec::new(alloc);
+    for broken in &broken_list {
         let entry = (broken.row, broken.rule, broken.other);
-        told.push(entry).expect(rt, "out of memory");
+        list.push(entry).expect(rt, "out of memory");
     }
-    told
+    list
 }
 
-/// Rows, and what is told of them.
-type Case = (&'static str, &'static [Told]);
+/// Rows, and the rules that they break.
+type Case = (&'static str, &'static [BrokenAt]);
 
-/// This is told of each of these rows behind some others.
-fn are_told(rt: &impl Abort, alloc: Global, first: &str, cases: &[Case]) {
+/// Each of these cases breaks its rules, after some other rows.
+fn break_rules(rt: &impl Abort, alloc: Global, first: &str, cases: &[Case]) {
     for &(more, wanted) in cases {
-        let list = told(alloc, rt, first, more);
+        let list = broken_at(alloc, rt, first, more);
         same(rt, &list.as_slice(), &wanted, &more);
     }
 }
@@ -40,7 +40,7 @@ fn are_told(rt: &impl Abort, alloc: Global, first: &str, cases: &[Case]) {
 #[test]
 fn accepted_registers_break_none(rt: HostRuntime) -> Result<(), Fail> {
     for register in [CAMPUS, NESTED_SITES] {
-        are_told(&rt, rt.alloc(), register, &[("", &[])]);
+        break_rules(&rt, rt.alloc(), register, &[("", &[])]);
     }
     Ok(())
 }
@@ -54,7 +54,7 @@ const ROOTS_ALONE: &[Case] = &[
     ),
 ];
 
-/// Rows behind those of the campus, which are 8, as in all tables below.
+/// Rows after the 8 rows of the campus, as in all tables below.
 const ROOTS: &[Case] = &[
     (
         "node,*,root,\n",
@@ -76,8 +76,8 @@ const ROOTS: &[Case] = &[
 
 #[test]
 fn roots_are_told(rt: HostRuntime) -> Result<(), Fail> {
-    are_told(&rt, rt.alloc(), COLUMNS, ROOTS_ALONE);
-    are_told(&rt, rt.alloc(), CAMPUS, ROOTS);
+    break_rules(&rt, rt.alloc(), COLUMNS, ROOTS_ALONE);
+    break_rules(&rt, rt.alloc(), CAMPUS, ROOTS);
     Ok(())
 }
 
@@ -107,7 +107,7 @@ const DUPLICATES: &[Case] = &[
 
 #[test]
 fn duplicates_are_told_with_the_first(rt: HostRuntime) -> Result<(), Fail> {
-    are_told(&rt, rt.alloc(), CAMPUS, DUPLICATES);
+    break_rules(&rt, rt.alloc(), CAMPUS, DUPLICATES);
     Ok(())
 }
 
@@ -130,7 +130,7 @@ const GROUPS_OF_ZONES: &[Case] = &[
 
 #[test]
 fn groups_of_zones_are_told(rt: HostRuntime) -> Result<(), Fail> {
-    are_told(&rt, rt.alloc(), CAMPUS, GROUPS_OF_ZONES);
+    break_rules(&rt, rt.alloc(), CAMPUS, GROUPS_OF_ZONES);
     Ok(())
 }
 
@@ -160,7 +160,7 @@ const LOCATORS: &[Case] = &[
 
 #[test]
 fn locators_are_told_with_the_first_earlier_group(rt: HostRuntime) -> Result<(), Fail> {
-    are_told(&rt, rt.alloc(), CAMPUS, LOCATORS);
+    break_rules(&rt, rt.alloc(), CAMPUS, LOCATORS);
     Ok(())
 }
 
@@ -188,7 +188,7 @@ const BELOW_MAP_SERVERS: &[Case] = &[
 
 #[test]
 fn zones_below_map_servers_are_told_with_the_nearest(rt: HostRuntime) -> Result<(), Fail> {
-    are_told(&rt, rt.alloc(), CAMPUS, BELOW_MAP_SERVERS);
+    break_rules(&rt, rt.alloc(), CAMPUS, BELOW_MAP_SERVERS);
     Ok(())
 }
 
@@ -208,8 +208,8 @@ const NO_ZONE: &[Case] = &[(
 
 #[test]
 fn sites_outside_are_told_with_their_zone(rt: HostRuntime) -> Result<(), Fail> {
-    are_told(&rt, rt.alloc(), CAMPUS, SITES);
-    are_told(&rt, rt.alloc(), COLUMNS, NO_ZONE);
+    break_rules(&rt, rt.alloc(), CAMPUS, SITES);
+    break_rules(&rt, rt.alloc(), COLUMNS, NO_ZONE);
     Ok(())
 }
 
@@ -226,7 +226,7 @@ const MANY_ETRS: &[Case] = &[
 
 #[test]
 fn too_many_etrs_are_told(rt: HostRuntime) -> Result<(), Fail> {
-    are_told(&rt, rt.alloc(), CAMPUS, MANY_ETRS);
+    break_rules(&rt, rt.alloc(), CAMPUS, MANY_ETRS);
     Ok(())
 }
 
@@ -251,6 +251,6 @@ const SEVERAL_RULES: &[Case] = &[
 
 #[test]
 fn one_row_breaks_several_rules(rt: HostRuntime) -> Result<(), Fail> {
-    are_told(&rt, rt.alloc(), CAMPUS, SEVERAL_RULES);
+    break_rules(&rt, rt.alloc(), CAMPUS, SEVERAL_RULES);
     Ok(())
 }

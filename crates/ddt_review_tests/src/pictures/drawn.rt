@@ -3,8 +3,8 @@
 use ddt_check::{Accepted, check};
 use ddt_examples::registers::{CAMPUS, CAMPUS_GROWN};
 use ddt_path::{Action, Locator, Prefix, Xeid};
-use ddt_pictures::{boxes_under, change_picture, hops_of, ladder_picture, tree_picture};
 use ddt_register::read_register;
+use ddt_report::pictures::{boxes_under, change_picture, hops_of, ladder_picture, tree_picture};
 use std::alloc::Global;
 use std::process::Abort;
 use std::test::Fail;
@@ -26,7 +26,7 @@ const HOST: Xeid = Xeid {
     address: Locator::V4(0x0a01_0203),
 };
 
-/// How often a text stands in another.
+/// The number of times that a text occurs in another.
 fn count(whole: &[u8], text: &[u8]) -> usize {
     whole
         .windows(text.len().max(1))

@@ -35,7 +35,7 @@ pub fn page_of(alloc: Global, before: &str, changes: &str) -> Result<Vec<u8>, Al
     report_page(alloc, &report)
 }
 
-/// How often a text stands in another.
+/// The number of times that a text occurs in another.
 fn count(whole: &[u8], text: &str) -> usize {
     whole
         .windows(text.len().max(1))

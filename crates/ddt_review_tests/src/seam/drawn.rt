@@ -1,5 +1,5 @@
-//! Pairs of registers that are drawn from one pool of rows: whether their seam is good, beside plain bodies that look at
-//! each pair of rows.
+//! Pairs of registers that are drawn from one pool of rows: whether their seam is good, beside plain bodies that look
+//! at each pair of rows.
 
 use crate::comparison::{holds, same};
 use crate::seam::registers::names;
@@ -7,8 +7,8 @@ use crate::seam::slow::is_good_slowly;
 use ddt_check::{Accepted, check};
 use ddt_examples::Dice;
 use ddt_examples::registers::COLUMNS;
+use ddt_organisations::seam::seam_lines;
 use ddt_register::read_register;
-use ddt_seam::seam_lines;
 use std::alloc::{AllocError, Global};
 use std::process::Abort;
 use std::test::Fail;

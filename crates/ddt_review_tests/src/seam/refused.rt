@@ -1,4 +1,4 @@
-//! Memory is refused: nothing is told, and the next call tells all.
+//! Memory is refused: the call returns no report, and the next call returns all of it.
 //!
 //! `.ci/memory` runs each of these tests with each growth refused in turn.
 
@@ -6,8 +6,8 @@ use crate::comparison::same;
 use crate::seam::registers::{accepted, names};
 use ddt_check::Accepted;
 use ddt_examples::registers::{CAMPUS, CAMPUS_GROWN};
+use ddt_organisations::seam::{SeamReport, seam_lines};
 use ddt_path::Name;
-use ddt_seam::{Told, seam_lines};
 use std::alloc::{AllocError, Global};
 use std::collections::BTreeSet;
 use std::test::Fail;
@@ -17,7 +17,7 @@ fn told(
     foreign: &BTreeSet<Name>,
     ours: &Accepted,
     theirs: &Accepted,
-) -> Result<Option<Told>, AllocError> {
+) -> Result<Option<SeamReport>, AllocError> {
     match seam_lines(alloc, foreign, ours, theirs) {
         Ok(told) => Ok(told),
         Err(AllocError) => seam_lines(alloc, foreign, ours, theirs),

@@ -1,16 +1,16 @@
-//! Registers that meet, and what is told of them.
+//! Registers that meet, and the reports on their seams.
 
 use crate::comparison::same;
 use ddt_check::{Accepted, check};
+use ddt_organisations::seam::{SeamReport, seam_lines};
 use ddt_path::Name;
 use ddt_register::{ReadFault, Register, read_register};
-use ddt_seam::{Told, seam_lines};
 use std::alloc::{AllocError, Global};
 use std::collections::BTreeSet;
 use std::process::Abort;
 use std::test::Fail;
 
-/// The register of a text, read once more where memory is refused, of which it tells no other fault.
+/// The register of a text, read again if memory was refused, which must be the only fault.
 fn register(rt: &impl Abort, alloc: Global, text: &str) -> Result<Register, Fail> {
     match read_register(alloc, text.as_bytes()) {
         Ok(register) => Ok(register),
@@ -40,14 +40,14 @@ pub fn names(alloc: Global, words: &[&str]) -> Result<BTreeSet<Name>, AllocError
     Ok(names)
 }
 
-/// What is told of two registers, some groups being foreign to the first.
+/// The report on the seam of two registers; some groups are foreign to the first.
 pub fn told_of(
     rt: &impl Abort,
     alloc: Global,
     foreign: &[&str],
     ours: &str,
     theirs: &str,
-) -> Result<Told, Fail> {
+) -> Result<SeamReport, Fail> {
     let foreign = names(alloc, foreign)?;
     let ours = accepted(rt, alloc, ours)?;
     let theirs = accepted(rt, alloc, theirs)?;

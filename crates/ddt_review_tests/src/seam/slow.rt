@@ -1,8 +1,8 @@
-//! Whether a seam is good, by plain bodies that look at each pair of rows.
+//! Whether a seam is good, by plain bodies that compare each pair of rows.
 
 use ddt_check::{Accepted, check};
 use ddt_path::{Listed, Locator, Name, Prefix};
-use ddt_register::{Group, Register, Site, Zone};
+use ddt_register::{Etrs, Group, Register, Site, Zone};
 use std::alloc::{AllocError, Global};
 use std::collections::BTreeSet;
 
@@ -111,7 +111,7 @@ fn joined_sites(
     {
         if !sites.iter().any(|known| is_same_site(known, site)) {
             *row = row.saturating_add(1);
-            let etrs = copied(alloc, site.etrs.as_slice())?;
+            let etrs = Etrs::of(Vec::from_slice(alloc, site.etrs.as_slice())?);
             sites.push(Site {
                 prefix: site.prefix,
                 etrs,

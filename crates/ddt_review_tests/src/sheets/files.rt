@@ -1,11 +1,11 @@
 //! Files as spreadsheets and people write them.
 
-use crate::sheets::plain::tells;
+use crate::sheets::plain::faults_are;
 use std::alloc::{AllocError, Global};
 use std::process::Abort;
 use std::test::Fail;
 
-/// Files that differ as a whole, and what is told of each.
+/// Files that differ as a whole, and the faults of each.
 const DIFFERENT: &[(&str, &str)] = &[
     (
         "kind;prefix;group;addresses\r\ngroup-node;;root;127.0.0.1\r\nnode;*;root;\r\n",
@@ -75,7 +75,7 @@ r.csv:7: 5 Name: 'ROOT' is no name of a group: 1 to 63 lower-case letters, digit
     ),
 ];
 
-/// Files that are read as they are, of which nothing is told.
+/// Files that are read as they are, and have no fault.
 const READ: &[&str] = &[
     "",
     "\n\n",
@@ -87,7 +87,7 @@ const READ: &[&str] = &[
 /// A register with a wrong name in line 2.
 const WRONG_NAME: &str = "kind,prefix,group,addresses\r\nnode,*,Wurzel-\u{fc},\r\n";
 
-/// What is told of it in UTF-16.
+/// Its faults in UTF-16.
 const WRONG_NAME_TOLD: &str = "r.csv:1: 2 Columns: the file is UTF-16 and must be UTF-8
 r.csv:2: 5 Name: 'Wurzel-\u{fc}' is no name of a group: 1 to 63 lower-case letters, digits and hyphens
 2 faults
@@ -110,14 +110,14 @@ fn in_utf16(alloc: Global, text: &str, little: bool) -> Result<Vec<u8>, AllocErr
 #[test]
 fn what_a_file_differs_in_is_told_once_and_its_rows_are_read(rt: HostRuntime) {
     for (text, told) in DIFFERENT {
-        tells(rt.alloc(), &rt, text.as_bytes(), &[], told);
+        faults_are(rt.alloc(), &rt, text.as_bytes(), &[], told);
     }
 }
 
 #[test]
 fn nothing_is_told_of_what_ddt_reads(rt: HostRuntime) {
     for text in READ {
-        tells(rt.alloc(), &rt, text.as_bytes(), &[], "no fault\n");
+        faults_are(rt.alloc(), &rt, text.as_bytes(), &[], "no fault\n");
     }
 }
 
@@ -127,7 +127,7 @@ fn utf16_is_read_with_and_without_a_mark(rt: HostRuntime) -> Result<(), Fail> {
     for text in [WRONG_NAME, marked.as_str()] {
         for little in [true, false] {
             let bytes = in_utf16(rt.alloc(), text, little)?;
-            tells(rt.alloc(), &rt, &bytes, &[], WRONG_NAME_TOLD);
+            faults_are(rt.alloc(), &rt, &bytes, &[], WRONG_NAME_TOLD);
         }
     }
     Ok(())

@@ -1,25 +1,31 @@
-//! The text that is told of a file.
+//! The text of the faults of a file.
 
 use crate::comparison::same;
 use ddt_register::Register;
-use ddt_sheets::{BrokenRule, told_faults, told_text};
+use ddt_review::sheets::{BrokenRule, fault_lines_text, file_faults};
 use std::alloc::Global;
 use std::process::Abort;
 
-/// The text that is told of a file named `r.csv` in which these rules are broken.
-fn told_of(alloc: Global, rt: &impl Abort, bytes: &[u8], broken: &[BrokenRule]) -> String {
+/// The text of the faults of a file named `r.csv` in which these rules are broken.
+fn faults_text(alloc: Global, rt: &impl Abort, bytes: &[u8], broken: &[BrokenRule]) -> String {
     let find = |_register: &Register| Vec::from_slice(alloc, broken);
-    let faults = told_faults(alloc, bytes, find).expect(rt, "faults");
-    let text = told_text(alloc, "r.csv", &faults).expect(rt, "a text");
+    let faults = file_faults(alloc, bytes, find).expect(rt, "faults");
+    let text = fault_lines_text(alloc, "r.csv", &faults).expect(rt, "a text");
     String::from_utf8_lossy(alloc, &text).expect(rt, "a text")
 }
 
-/// Just this is told of a file in which these rules are broken.
-pub fn tells(alloc: Global, rt: &impl Abort, bytes: &[u8], broken: &[BrokenRule], told: &str) {
+/// This is the text of the faults of a file in which these rules are broken.
+pub fn faults_are(
+    alloc: Global,
+    rt: &impl Abort,
+    bytes: &[u8],
+    broken: &[BrokenRule],
+    wanted: &str,
+) {
     same(
         rt,
-        &told_of(alloc, rt, bytes, broken).as_str(),
-        &told,
+        &faults_text(alloc, rt, bytes, broken).as_str(),
+        &wanted,
         &bytes,
     );
 }

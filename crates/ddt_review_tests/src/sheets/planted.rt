@@ -1,8 +1,8 @@
-//! A file with planted faults: each is told at its own line, with the line of the other row.
+//! A file with planted faults: each is reported at its own line, with the line of the other row.
 
-use crate::sheets::plain::tells;
+use crate::sheets::plain::faults_are;
 use ddt_check::Rule;
-use ddt_sheets::BrokenRule;
+use ddt_review::sheets::BrokenRule;
 
 /// A register with five records that can't be read, one more with a line end in quotes, and five broken rules.
 const PLANTED: &str = r#"kind,prefix,group,addresses
@@ -68,7 +68,7 @@ r.csv:15: A8 SiteOutside: the zone of line 6 covers [0]10.9.0.0/16 and is one of
 
 #[test]
 fn each_planted_fault_is_told_at_its_line(rt: HostRuntime) {
-    tells(
+    faults_are(
         rt.alloc(),
         &rt,
         PLANTED.as_bytes(),

@@ -1,13 +1,13 @@
 //! The reason of each kind of fault.
 
-use crate::sheets::plain::tells;
+use crate::sheets::plain::faults_are;
 use ddt_check::Rule;
 use ddt_examples::registers::COLUMNS;
-use ddt_sheets::BrokenRule;
+use ddt_review::sheets::BrokenRule;
 use std::alloc::Global;
 use std::process::Abort;
 
-/// Rows, and what is told of each.
+/// Rows, and the fault of each.
 const ROWS: &[(&str, &str)] = &[
     ("site,*,", "1 Csv: 3 fields where there must be 4"),
     (
@@ -188,35 +188,35 @@ const RULES: &[(u32, Rule, Option<u32>, &str)] = &[
     ),
 ];
 
-/// This is told of a row behind the columns.
-fn row_tells(alloc: Global, rt: &impl Abort, row: &str, told: &str) {
+/// This is the fault of a row after the names of the columns.
+fn row_fault_is(alloc: Global, rt: &impl Abort, row: &str, wanted: &str) {
     let text = format!(in alloc; "{COLUMNS}{row}\n").expect(rt, "out of memory");
-    let told = format!(in alloc; "r.csv:2: {told}\n1 fault\n").expect(rt, "out of memory");
-    tells(alloc, rt, text.as_bytes(), &[], told.as_str());
+    let wanted = format!(in alloc; "r.csv:2: {wanted}\n1 fault\n").expect(rt, "out of memory");
+    faults_are(alloc, rt, text.as_bytes(), &[], wanted.as_str());
 }
 
-/// This is told of a broken rule.
-fn rule_tells(alloc: Global, rt: &impl Abort, broken: BrokenRule, told: &str) {
-    let told = format!(in alloc; "r.csv:{told}\n1 fault\n").expect(rt, "out of memory");
-    tells(alloc, rt, BREAKING.as_bytes(), &[broken], told.as_str());
+/// This is the line of a broken rule.
+fn rule_fault_is(alloc: Global, rt: &impl Abort, broken: BrokenRule, wanted: &str) {
+    let wanted = format!(in alloc; "r.csv:{wanted}\n1 fault\n").expect(rt, "out of memory");
+    faults_are(alloc, rt, BREAKING.as_bytes(), &[broken], wanted.as_str());
 }
 
 #[test]
 fn a_row_that_is_none_has_its_reason(rt: HostRuntime) {
-    for (row, told) in ROWS {
-        row_tells(rt.alloc(), &rt, row, told);
+    for (row, wanted) in ROWS {
+        row_fault_is(rt.alloc(), &rt, row, wanted);
     }
 }
 
 #[test]
 fn a_broken_rule_has_its_reason(rt: HostRuntime) {
-    for (row, rule, other, told) in RULES {
+    for (row, rule, other, wanted) in RULES {
         let broken = BrokenRule {
             row: *row,
             rule: *rule,
             other: *other,
         };
-        rule_tells(rt.alloc(), &rt, broken, told);
+        rule_fault_is(rt.alloc(), &rt, broken, wanted);
     }
 }
 
@@ -227,6 +227,6 @@ fn an_empty_file_has_no_root(rt: HostRuntime) {
         rule: Rule::NoRoot,
         other: None,
     };
-    let told = "r.csv:1: A1 NoRoot: no zone has the prefix *, as the file has no row\n1 fault\n";
-    tells(rt.alloc(), &rt, b"", &[broken], told);
+    let wanted = "r.csv:1: A1 NoRoot: no zone has the prefix *, as the file has no row\n1 fault\n";
+    faults_are(rt.alloc(), &rt, b"", &[broken], wanted);
 }

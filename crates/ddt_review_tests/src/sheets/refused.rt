@@ -1,10 +1,10 @@
-//! Memory is refused: that is told, and the next call tells all.
+//! Memory is refused: the call fails with that fault, and the next call returns all faults.
 //!
 //! `.ci/memory` runs each of these tests with each growth refused in turn.
 
 use crate::comparison::same;
 use ddt_register::{ReadFault, Register};
-use ddt_sheets::{BrokenRule, FaultLine, told_faults};
+use ddt_review::sheets::{BrokenRule, FaultLine, file_faults};
 use std::alloc::Global;
 use std::test::Fail;
 
@@ -12,7 +12,7 @@ use std::test::Fail;
 const FILE: &[u8] = b"kind\tprefix\tgroup\taddresses\nnode\t*\t\t\n";
 
 fn faults(alloc: Global) -> Result<Vec<FaultLine>, ReadFault> {
-    told_faults(alloc, FILE, |_register: &Register| {
+    file_faults(alloc, FILE, |_register: &Register| {
         let none: Vec<BrokenRule> = Vec::new(alloc);
         Ok(none)
     })

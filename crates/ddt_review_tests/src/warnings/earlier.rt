@@ -4,7 +4,7 @@ use crate::comparison::same;
 use crate::warnings::registers::accepted;
 use ddt_examples::registers::{CAMPUS, COLUMNS, NESTED_SITES};
 use ddt_register::{Register, read_register};
-use ddt_warnings::{Cut, LostSites, ZonelessSite, cut_of, zoneless_sites};
+use ddt_review::warnings::{LostSites, Truncation, ZonelessSite, truncation_of, zoneless_sites};
 use std::alloc::Global;
 use std::collections::BTreeSet;
 use std::process::Abort;
@@ -52,23 +52,37 @@ fn more_than_so_many_percent_are_too_many(rt: HostRuntime) {
 #[test]
 fn a_cut_file_is_found(rt: HostRuntime) {
     let old = b"kind\nsite,a,b\nsite,c,dd\n";
-    let cases: [(&[u8], Option<Cut>); 9] = [
-        (b"", Some(Cut::Beginning { lines: 3 })),
-        (b"kind\nsite,a,b\n", Some(Cut::Beginning { lines: 1 })),
-        (b"kind\nsite,a,b\nsite,c", Some(Cut::Beginning { lines: 1 })),
-        (b"kind\nsite,c,d", Some(Cut::Shortened { line: 3 })),
-        (b"kind\nsite,c,d\r\n\r\n", Some(Cut::Shortened { line: 3 })),
-        (b"kind\nsite,a,b", Some(Cut::Beginning { lines: 2 })),
-        (b"name\nsite,a,b", Some(Cut::OpenLine)),
+    let cases: [(&[u8], Option<Truncation>); 9] = [
+        (b"", Some(Truncation::Beginning { lines: 3 })),
+        (
+            b"kind\nsite,a,b\n",
+            Some(Truncation::Beginning { lines: 1 }),
+        ),
+        (
+            b"kind\nsite,a,b\nsite,c",
+            Some(Truncation::Beginning { lines: 1 }),
+        ),
+        (b"kind\nsite,c,d", Some(Truncation::Shortened { line: 3 })),
+        (
+            b"kind\nsite,c,d\r\n\r\n",
+            Some(Truncation::Shortened { line: 3 }),
+        ),
+        (b"kind\nsite,a,b", Some(Truncation::Beginning { lines: 2 })),
+        (b"name\nsite,a,b", Some(Truncation::OpenLine)),
         (b"name\nsite,a,b\n", None),
         (old, None),
     ];
     for (file, wanted) in cases {
-        same(&rt, &cut_of(Some(old), file), &wanted, &file);
+        same(&rt, &truncation_of(Some(old), file), &wanted, &file);
     }
-    same(&rt, &cut_of(None, b"kind"), &Some(Cut::OpenLine), &"kind");
-    same(&rt, &cut_of(None, b"kind\r"), &None, &"kind");
-    same(&rt, &cut_of(None, b""), &None, &"nothing");
+    same(
+        &rt,
+        &truncation_of(None, b"kind"),
+        &Some(Truncation::OpenLine),
+        &"kind",
+    );
+    same(&rt, &truncation_of(None, b"kind\r"), &None, &"kind");
+    same(&rt, &truncation_of(None, b""), &None, &"nothing");
 }
 
 #[test]

@@ -3,7 +3,7 @@
 use crate::comparison::same;
 use crate::warnings::registers::{accepted, warning_lines};
 use ddt_examples::registers::{CAMPUS, CAMPUS_GROWN, COLUMNS, NESTED_SITES};
-use ddt_warnings::Kind;
+use ddt_review::warnings::Kind;
 use std::alloc::Global;
 use std::process::Abort;
 use std::test::Fail;
@@ -20,7 +20,7 @@ site,[0]10.1.2.0/24,,198.51.100.1
 site,[0]10.3.2.0/24,,198.51.100.2
 ";
 
-/// Rows behind those of the region, and the warnings that they give.
+/// Rows after those of the region, and the warnings that they give.
 const CASES: [(&str, &str); 50] = [
     ("", ""),
     (

@@ -1,4 +1,4 @@
-//! Memory is refused: there is no list, and the next call tells all.
+//! Memory is refused: there is no list, and the next call returns all warnings.
 //!
 //! `.ci/memory` runs each of these tests with each growth refused in turn.
 
@@ -6,12 +6,12 @@ use crate::comparison::same;
 use ddt_check::{Accepted, check};
 use ddt_examples::registers::CAMPUS;
 use ddt_register::{ReadFault, Register, read_register};
-use ddt_warnings::{Finding, Warning, warnings};
+use ddt_review::warnings::{Finding, Warning, warnings};
 use std::alloc::{AllocError, Global};
 use std::process::Abort;
 use std::test::Fail;
 
-/// The register of a text, read once more where memory is refused, of which it tells no other fault.
+/// The register of a text, read again if memory was refused, which must be the only fault.
 fn register(rt: &impl Abort, alloc: Global, text: &str) -> Result<Register, Fail> {
     match read_register(alloc, text.as_bytes()) {
         Ok(register) => Ok(register),

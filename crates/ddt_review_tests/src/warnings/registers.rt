@@ -3,7 +3,7 @@
 use ddt_check::{Accepted, check};
 use ddt_path::Locator;
 use ddt_register::read_register;
-use ddt_warnings::warnings;
+use ddt_review::warnings::warnings;
 use std::alloc::{AllocError, Global};
 use std::process::Abort;
 

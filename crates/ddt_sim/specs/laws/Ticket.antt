@@ -58,23 +58,23 @@ goes_on_reply s call a t l new (goes_on f over second more e) = inr (_, f)
 
 -- Where a lookup comes from that is pending after a step. `stayed`: it was pending, and the step is not of it. `opened`:
 -- it was asked for now. `went_on`: it was pending, and has sent its next request.
-pub data Came (s : State) (call : ResolverCall) (a : Reply) (t : ℕ) (l : Pending) : Type 0 where
-  stayed : get s.pending t ≡ Some l → (IsOf (progress_of a) t → ⊥) → Came s call a t l
-  opened : (k : Pending) → numbered s k ≡ l → t ≡ s.next → call ≡ resolver.Ask k.x → k.place ≡ 0 → k.second ≡ false → k.kept ≡ None
-      → a ≡ ToAsk (Ok (asked_as.Sent s.next (request s k))) → Came s call a t l
-  went_on : (old k : Pending) → numbered s k ≡ l → get s.pending t ≡ Some old → k.x ≡ old.x → Goes s call a t old k → IsLookup k → Came s call a t l
+pub data PendingFrom (s : State) (call : ResolverCall) (a : Reply) (t : ℕ) (l : Pending) : Type 0 where
+  stayed : get s.pending t ≡ Some l → (IsOf (progress_of a) t → ⊥) → PendingFrom s call a t l
+  opened : (k : Pending) → numbered s k ≡ l → t ≡ s.next → call ≡ resolver.Ask k.x → k.server_index ≡ 0 → k.is_retry ≡ false → k.last_not_registered ≡ None
+      → a ≡ ToAsk (Ok (asked_as.Sent s.next (request s k))) → PendingFrom s call a t l
+  went_on : (old k : Pending) → numbered s k ≡ l → get s.pending t ≡ Some old → k.x ≡ old.x → Goes s call a t old k → IsLookup k → PendingFrom s call a t l
 
-pub came : {s : State} {call : ResolverCall} {new : State} {a : Reply} → Move s call new a → (t : ℕ) (l : Pending) → get new.pending t ≡ Some l → Came s call a t l
-came {s = s} (stays p n q) t l found = stayed (rw p at found) (λ of. rw q at of)
-came {s = s} (opens k called place first empty unsaved is more few p n f) t l found = elim (found_insert s.pending s.next (numbered s k) t l (rw p at found)) [
+pub pending_from : {s : State} {call : ResolverCall} {new : State} {a : Reply} → Move s call new a → (t : ℕ) (l : Pending) → get new.pending t ≡ Some l → PendingFrom s call a t l
+pending_from {s = s} (stays p n q) t l found = stayed (rw p at found) (λ of. rw q at of)
+pending_from {s = s} (opens k called place first empty unsaved is more few p n f) t l found = elim (found_insert s.pending s.next (numbered s k) t l (rw p at found)) [
   | inl e ↦ opened k e.1 e.0 called place first empty f
   | inr e ↦ stayed e.1 (λ of. e.0 (sym (rw f at of)))
 ]
-came {s = s} (sends u old k here x goes is more p n) t l found = elim (found_insert s.pending u (numbered s k) t l (rw p at found)) [
+pending_from {s = s} (sends u old k here x goes is more p n) t l found = elim (found_insert s.pending u (numbered s k) t l (rw p at found)) [
   | inl e ↦ went_on old k e.1 (rw e.0 here) x (rw e.0 goes) is
   | inr e ↦ stayed e.1 (λ of. e.0 (sym (rw (goes_sends s _ _ u old k goes) at of)))
 ]
-came {s = s} (drops u k end here p n f why) t l found =
+pending_from {s = s} (drops u k end here p n f why) t l found =
     let e = found_remove s.pending u t l (rw p at found) in
     stayed e.1 (λ of. e.0 (sym (rw f at of)))
 
@@ -134,7 +134,7 @@ module _ (line : Line) (moment : ℕ) (old new : State) (call : ResolverCall) (a
   progress_is : progress_at line.event ≡ progress_of a
   progress_is = ap progress_at tells ∙ told_progress a
 
-  came_was : (t : ℕ) (l : Pending) → Came (moved moment old) call a t l → ((k : Pending) × (get old.pending t ≡ Some k) × (k.x ≡ l.x)) ⊎ ((t ≡ old.next) × AsksFor t l.x line)
+  came_was : (t : ℕ) (l : Pending) → PendingFrom (moved moment old) call a t l → ((k : Pending) × (get old.pending t ≡ Some k) × (k.x ≡ l.x)) ⊎ ((t ≡ old.next) × AsksFor t l.x line)
   came_was t l (stayed there other) = inl (l, there, refl)
   came_was t l (opened k is here called place first empty f) = inr (here, (calls l.x (called ∙ ap (λ (z : Pending). resolver.Ask z.x) is), (request (moved moment old) k, rw here (tells ∙ ap event_of f))))
   came_was t l (went_on k m is there x goes lookup) = inl (k, there, sym x ∙ ap (λ (z : Pending). z.x) is)
@@ -165,7 +165,7 @@ module _ (line : Line) (moment : ℕ) (old new : State) (call : ResolverCall) (a
   pub move_turn : Move (moved moment old) call new a → IsTurn line old new
   move_turn m = record {
     grows = move_grows m;
-    was = λ t l found. came_was t l (came m t l found);
+    was = λ t l found. came_was t l (pending_from m t l found);
     opens = move_opens m;
     ends = move_ends m;
   }

@@ -52,6 +52,10 @@ ipv4-sound text octets e =
     let (front, split, dotted) = read_ipv4_sound text octets [] (whole-sound (read_ipv4 text) octets e) in
     subst (λ t. IsDotted t octets) (sym (split ∙ append-nil front)) dotted
 
+pub ipv4-whole : (text octets rest : List ℕ) → read_ipv4 text ≡ Some (octets, rest) → length rest < 1 → IsDotted text octets
+ipv4-whole text octets [] e none = ipv4-sound text octets (rw e)
+ipv4-whole text octets (b ∷ bs) e none = absurd (omega arith)
+
 ipv4-complete : (text octets : List ℕ) → IsDotted text octets → whole_value (read_ipv4 text) ≡ Some octets
 ipv4-complete text octets h =
     let read : read_ipv4 text ≡ Some (octets, []) = ap read_ipv4 (sym (append-nil text)) ∙ read_ipv4_complete text octets [] h (lit≤ tt) in

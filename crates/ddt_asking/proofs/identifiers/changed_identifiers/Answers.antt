@@ -3,7 +3,7 @@ use Rattle.ddt_plan.specs.declared.change_list.Change.{Change}
 use Rattle.ddt_plan.specs.declared.outcomes.Reading.TheVariants.{Exact}
 use Rattle.std.specs.declared.alloc.AllocError.{AllocError}
 use Rattle.ddt_plan.specs.Changes.{AreChanges}
-use Rattle.ddt_asking.specs.declared.identifiers.Inner.{Inner}
+use Rattle.ddt_asking.specs.declared.identifiers.IdentifierSink.{IdentifierSink}
 use Rattle.ddt_asking.proofs.IdentifierLemmas.{all_taken}
 use Rattle.ddt_asking.proofs.identifiers.changed_identifiers.Goals as goal
 
@@ -13,6 +13,6 @@ returns-in-Ok c =
       given.0,
       subst (λ (inside : List ℕ). AreChanges Exact c.args.before.now c.args.after.now inside given.0)
           c.everything.ensures given.1,
-      all_taken AllocError (λ (h : Change). h.prefix) (λ (s : Inner). s.identifiers.items) given.0
+      all_taken AllocError (λ (h : Change). h.prefix) (λ (s : IdentifierSink). s.identifiers.items) given.0
           (record { identifiers = c.new.result }) c.changes.new.sink c.new.ensures.items given.2,
     )

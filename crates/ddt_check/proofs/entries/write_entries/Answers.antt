@@ -1,6 +1,6 @@
 use Rattle.std.proofs.Common.{map, ◌∙◌, arith}
 use Rattle.std.proofs.lemmas.List.{length-map, map-set, length-set, get_or_default}
-use Rattle.ddt_check.specs.declared.entries.Entry.{Entry}
+use Rattle.ddt_check.specs.declared.entries.SortEntry.{SortEntry}
 use Rattle.ddt_check.proofs.EntryLemmas.{one_more_written}
 use Rattle.ddt_check.proofs.entries.write_entries.Goals as goal
 
@@ -9,7 +9,7 @@ loop-at-preserved g c =
     let xs = c.loop-at.entries in
     let i = c.loop-at.at in
     let items = c.args.items.now in
-    let item = λ (e : Entry g.row.T.Denot g.T.Keyed g.T.Item). e.item.now in
+    let item = λ (e : SortEntry g.row.T.Denot g.T.Keyed g.T.Item). e.item.now in
     let x = item c.of.result in
     let long = length-map xs item in
     let lt = c.loop-at-test.true in

@@ -1,6 +1,6 @@
 use Rattle.std.proofs.Common.{map, string_bytes}
 use Rattle.std.proofs.lemmas.Result.{IfOk-weaker}
-use Rattle.ddt_words.specs.Call.{call_of}
+use Rattle.ddt_commands.specs.CommandLine.Call.{call_of}
 use Rattle.ddt_commands.proofs.RunLemmas.{bad_words, program_calls, simple_line}
 use Rattle.ddt_commands.proofs.call.read_words.Goals as goal
 

@@ -1,6 +1,6 @@
 use Rattle.std.proofs.Common.{◌≡◌, Ok, drop, map, take, true}
 use Rattle.ddt_text.specs.FirstFault.{xeid_in}
-use Rattle.ddt_commands.specs.Lookup.{bad_identifier}
+use Rattle.ddt_commands.specs.Commands.Lookup.{bad_identifier}
 use Rattle.ddt_commands.proofs.Texts.{texts}
 use Rattle.ddt_commands.proofs.resolver.identifiers_in.Given as goal
 

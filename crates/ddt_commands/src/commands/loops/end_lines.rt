@@ -3,7 +3,7 @@
 ghost use Rattle.std.specs.Prelude.{◌≡◌, IfOk};
 ghost use Rattle.std.specs.List.{list_all};
 ghost use Rattle.ddt_lines.specs.Lines.{ended};
-ghost use Rattle.ddt_commands.specs.Loop.{end_line as line_of, end_lines as lines_of, end_text as text_of, is_outcome as is_outcome_of};
+ghost use Rattle.ddt_commands.specs.Commands.Loop.{end_line as line_of, end_lines as lines_of, end_text as text_of, is_outcome as is_outcome_of};
 
 use crate::resolver::{ask_error_name, plain_line, why_name};
 use ddt_lines::outcome_line;
@@ -12,7 +12,7 @@ use ddt_path::Xeid;
 use ddt_text::write_xeid;
 use std::alloc::{AllocError, Global};
 
-/// `XEID END` and a line feed for each identifier and its end, in their order. Fails only if out of memory.
+/// `XEID END` and a line feed for each identifier and its end, in their order.
 pub fn end_lines(alloc: Global, ids: &[Xeid], ends: &[LoopEnd]) -> Result<Vec<u8>, AllocError>
     ensures { IfOk result (λ text. text.items ≡ lines_of ids.now ends.now) }
 {
@@ -33,7 +33,7 @@ fn end_line(alloc: Global, x: Xeid, end: &LoopEnd) -> Result<Vec<u8>, AllocError
     Ok(line)
 }
 
-/// The end of a lookup, and a line feed. Fails only if out of memory.
+/// The end of a lookup, and a line feed.
 fn end_text(alloc: Global, end: &LoopEnd) -> Result<Vec<u8>, AllocError>
     ensures { IfOk result (λ text. text.items ≡ ended (text_of end.now)) }
 {

@@ -2,8 +2,8 @@
 
 ghost use Rattle.std.specs.Prelude.{◌≡◌, None, Some, IfErr, IfOk, OnOk};
 ghost use Rattle.ddt_path.specs.declared.locator.Locator.{Locator as ALocator};
-ghost use Rattle.ddt_words.specs.Call.{Call};
-ghost use Rattle.ddt_commands.specs.Loop.{AreUntouched, CallsForTask, IsEndsText, IsWhyNoRun, LoopsOver, server_locators};
+ghost use Rattle.ddt_commands.specs.CommandLine.Call.{Call};
+ghost use Rattle.ddt_commands.specs.Commands.Loop.{AreUntouched, CallsForTask, IsEndsText, IsWhyNoRun, LoopsOver, server_locators};
 ghost use Rattle.ddt_commands.specs.Loopback.{first_outside as first_outside_of};
 ghost use Rattle.ddt_commands.specs.Sockets.{Binds};
 ghost use Rattle.ddt_commands.specs.declared.refusal.Refusal.TheVariants.{NoServer as IsNoServer};
@@ -16,11 +16,11 @@ use crate::refusal::{Refusal, ServerRefusal};
 use crate::resolver::{Client, Servers};
 use crate::sockets::bind_all;
 use ddt_check::Accepted;
-use ddt_loop::{Clock, Tree, loop_turns};
+use ddt_loop::{Clock, SocketMap, loop_turns};
 use ddt_path::{Locator, Xeid};
 use ddt_resolver::Resolver;
 use ddt_sim::{Compiled, a_step_keeps_a_resolver_sound};
-use ddt_wires::Wires;
+use ddt_sockets::Wires;
 use std::alloc::{AllocError, Global};
 use std::io;
 
@@ -41,26 +41,26 @@ pub struct Task<'a> {
 /// groups' rows.
 ///
 /// Refused where a server isn't at a loopback address, where a socket can't be bound, or if out of memory.
-#[tactic(auto, using(crate::specs::Loop::no_memory))]
+#[tactic(auto, using(crate::specs::Commands::Loop::no_memory))]
 pub fn loop_over<W, C, B>(
     alloc: Global,
     register: &Accepted,
     task: Task<'_>,
     wires: &mut W,
     clock: &mut C,
-    bind: B,
+    bind: &B,
 ) -> Result<Lines, Refusal<'static>>
 where
     W: Wires,
     C: Clock,
     B: Fn(&mut W, Locator) -> io::Result<()> + Drop,
-    requires { B.IsAlwaysCallable bind }
+    requires { B.IsAlwaysCallable bind.now }
     ensures text { (call : Call) → CallsForTask call task.entry → IfOk result (λ lines. IsEndsText
-        (LoopsOver (Binds B.Fn bind) W.calls C.readings wires.old wires.new clock.old clock.new)
+        (LoopsOver (Binds B.Fn bind.now) W.calls C.readings wires.old wires.new clock.old clock.new)
         call register.now lines.complete lines.text.items) }
     ensures refused { (call : Call) → CallsForTask call task.entry → IfErr result (IsWhyNoRun
         (AreUntouched wires.old wires.new clock.old clock.new)
-        (LoopsOver (Binds B.Fn bind) W.calls C.readings wires.old wires.new clock.old clock.new)
+        (LoopsOver (Binds B.Fn bind.now) W.calls C.readings wires.old wires.new clock.old clock.new)
         call register.now) }
 {
     a_step_keeps_a_resolver_sound();
@@ -69,7 +69,7 @@ where
     let servers: Servers = Compiled::build(alloc, register)?;
     let mut resolver: Client = Resolver::new(alloc, register.roots(), task.me, task.seed);
     bind_all(wires, bind, task.me, &sockets)?;
-    let tree = Tree {
+    let tree = SocketMap {
         me: task.me,
         sockets: &sockets,
         servers: &servers,
@@ -93,7 +93,7 @@ fn are_on_loopback(addresses: &[Locator]) -> Result<(), Refusal<'static>>
     }
 }
 
-/// The locators of all servers, in the order of the groups' rows. Fails only if out of memory.
+/// The locators of all servers, in the order of the groups' rows.
 fn locators_of_servers(alloc: Global, register: &Accepted) -> Result<Vec<Locator>, AllocError>
     ensures { IfOk result (λ locators. locators.items ≡ server_locators register.now) }
 {

@@ -1,8 +1,8 @@
-//! The line of each step of a replay: what came of it.
+//! The line of each step of a replay: its event.
 
 ghost use Rattle.std.specs.Prelude.{◌≡◌, ◌≤◌, ◌++◌, decimal, IfOk};
 ghost use Rattle.ddt_lines.specs.Lines.{ended};
-ghost use Rattle.ddt_commands.specs.Replay.{answer_text, datagrams_at, event_text, gave_up_text, ignored_text, lines_from, sent_text};
+ghost use Rattle.ddt_commands.specs.Commands.Replay.{answer_text, datagrams_at, event_text, gave_up_text, ignored_text, lines_from, sent_text};
 ghost use Rattle.ddt_resolver.specs.declared.results.Asked.TheVariants as asked_as;
 ghost use Rattle.ddt_sim.specs.declared.schedule.Event.TheVariants as event_as;
 
@@ -15,7 +15,7 @@ use ddt_text::write_locator;
 use std::alloc::{AllocError, Global};
 
 /// The lines of these events, in order. A request that an event sends has as its number how many datagrams were sent
-/// before it. Fails only if out of memory.
+/// before it.
 pub fn event_lines(alloc: Global, events: &[Event]) -> Result<Vec<u8>, AllocError>
     ensures { IfOk result (λ text. text.items ≡ lines_from 0 events.now) }
 {

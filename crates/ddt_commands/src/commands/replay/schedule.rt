@@ -1,4 +1,4 @@
-//! A schedule of a new resolver among the servers of a register, and the lines that tell it.
+//! A schedule of a new resolver among the servers of a register, and its lines.
 
 ghost use Rattle.std.specs.Prelude.{◌≡◌, ◌∷◌, map, IfOk, MatchOption};
 ghost use Rattle.std.specs.Bool.{Decides};
@@ -6,7 +6,7 @@ ghost use Rattle.std.specs.List.{All, AllByRecursion};
 ghost use Rattle.ddt_check.specs.Rules.{IsAccepted};
 ghost use Rattle.ddt_check.specs.Zones.{roots};
 ghost use Rattle.ddt_sim.specs.Compiled.{configs_of};
-ghost use Rattle.ddt_commands.specs.Replay.{IsFirstOther, IsRunText};
+ghost use Rattle.ddt_commands.specs.Commands.Replay.{IsFirstOther, IsRunText};
 
 use super::event_lines::event_lines;
 use crate::resolver::{Client, Servers};
@@ -18,7 +18,7 @@ use std::alloc::{AllocError, Global};
 
 /// The lines of these steps, one for each, over the servers of registers with the same root locators. Those of `first`
 /// have the number 0 and are in force at first, and those of `others` have the numbers from 1 on. The resolver has this
-/// address, its first request this nonce. Fails only if out of memory.
+/// address, its first request this nonce.
 pub fn replay(
     alloc: Global,
     first: &Accepted,
@@ -37,7 +37,7 @@ pub fn replay(
     event_lines(alloc, transcript.events.as_slice())
 }
 
-/// The servers of each register, in the order of their numbers. Fails only if out of memory.
+/// The servers of each register, in the order of their numbers.
 fn servers_of(
     alloc: Global,
     first: &Accepted,

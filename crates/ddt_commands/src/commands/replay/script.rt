@@ -1,4 +1,4 @@
-//! A script: a step of a schedule in each line. Lines are what stands between line feeds; empty ones don't count.
+//! A script: a step of a schedule in each line. Line feeds separate lines; empty ones don't count.
 
 ghost use Rattle.std.specs.Prelude.{◌≡◌, ◌≢◌, ◌++◌, ℕ, List, Err, IfErr, IfOk, MatchOption};
 ghost use Rattle.ddt_text.specs.Grammar.{SpellsXeid};
@@ -6,7 +6,7 @@ ghost use Rattle.ddt_path.specs.declared.xeid.Xeid.{Xeid};
 ghost use Rattle.ddt_sim.specs.declared.schedule.Step.{Step as AStep};
 ghost use Rattle.ddt_sim.specs.declared.schedule.Step.TheVariants as step_as;
 ghost use Rattle.ddt_commands.specs.declared.commands.replay.script.ScriptFault.TheVariants as fault_as;
-ghost use Rattle.ddt_commands.specs.Script.{IsRefusedAt, ScriptsAreClear, SpellsScript, SpellsStep};
+ghost use Rattle.ddt_commands.specs.Commands.Script.{IsRefusedAt, ScriptsAreClear, SpellsScript, SpellsStep};
 
 use ddt_sim::Step;
 use ddt_text::{parse_xeid, read_number};
@@ -68,18 +68,18 @@ fn step_of(line: &[u8], number: usize) -> Result<Step, ScriptFault>
 fn read_step(line: &[u8]) -> Option<Step>
     ensures { MatchOption result ((step : AStep) → ¬ (SpellsStep line.now step)) (λ step. SpellsStep line.now step) }
 {
-    if let Some(text) = behind(line, "ask ") {
+    if let Some(text) = after_word(line, "ask ") {
         return read_ask(text);
     }
-    if let Some(text) = behind(line, "deliver ") {
+    if let Some(text) = after_word(line, "deliver ") {
         let number = read_number(text, MOST)?;
         return Some(Step::Deliver(number));
     }
-    if let Some(text) = behind(line, "wait ") {
+    if let Some(text) = after_word(line, "wait ") {
         let millis = read_number(text, MOST)?;
         return Some(Step::Pass(millis));
     }
-    if let Some(text) = behind(line, "replace ") {
+    if let Some(text) = after_word(line, "replace ") {
         let number = read_number(text, MOST)?;
         return Some(Step::Replace(number));
     }
@@ -89,8 +89,8 @@ fn read_step(line: &[u8]) -> Option<Step>
     None
 }
 
-/// What stands behind a word at the front of a line.
-fn behind<'a>(line: &'a [u8], word: &str) -> Option<&'a [u8]>
+/// The rest of a line that begins with a word; None where it doesn't.
+fn after_word<'a>(line: &'a [u8], word: &str) -> Option<&'a [u8]>
     ensures { MatchOption result ((rest : List ℕ) → line.now ≢ word.now ++ rest) (λ rest.
         line.now ≡ word.now ++ rest.now) }
 {

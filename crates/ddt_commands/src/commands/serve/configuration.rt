@@ -6,7 +6,7 @@ ghost use Rattle.ddt_config.specs.Table.{outline};
 ghost use Rattle.ddt_trie.specs.PrefixMap.{most_entries};
 ghost use Rattle.ddt_commands.specs.Register.{HasBytes};
 ghost use Rattle.ddt_node.specs.Spelled.{IsServedConfig};
-ghost use Rattle.ddt_commands.specs.Serve.{IsBadConfig, IsWhyNoConfig, config_refusal};
+ghost use Rattle.ddt_commands.specs.Commands.Serve.{IsBadConfig, IsWhyNoConfig, config_refusal};
 
 use crate::file::bytes_of;
 use crate::refusal::{Refusal, ServerRefusal};
@@ -42,12 +42,12 @@ fn config_of(alloc: Global, bytes: &[u8]) -> Result<ServerConfig, Refusal<'stati
 {
     match config_in(alloc, bytes) {
         Ok(config) => Ok(config),
-        Err(fault) => Err(unserved(fault)),
+        Err(fault) => Err(refused_config(fault)),
     }
 }
 
 /// What is refused where bytes are no configuration: 5 Memory is out of memory, each other fault a bad configuration.
-fn unserved(fault: ConfigFault) -> Refusal<'static>
+fn refused_config(fault: ConfigFault) -> Refusal<'static>
     ensures { result ≡ config_refusal fault }
 {
     match fault {

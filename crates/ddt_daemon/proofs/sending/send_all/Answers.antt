@@ -1,6 +1,6 @@
 use Rattle.std.proofs.Common.{◌++◌}
-use Rattle.ddt_wires.specs.laws.Tell.{tells_both}
-use Rattle.ddt_wires.specs.laws.Turn.{tried_both}
+use Rattle.ddt_sockets.specs.laws.Tell.{tells_both}
+use Rattle.ddt_sockets.specs.laws.Turn.{tried_both}
 use Rattle.ddt_loop.specs.Acts.{sent_if}
 use Rattle.ddt_daemon.proofs.sending.send_all.Goals as goal
 

@@ -1,5 +1,5 @@
 use Rattle.std.proofs.Common.{[], ◌∷◌, refl}
-use Rattle.ddt_wires.specs.declared.call.Call.TheVariants.{Tried}
+use Rattle.ddt_sockets.specs.declared.wire_calls.Call.TheVariants.{Tried}
 use Rattle.ddt_daemon.proofs.sending.send_one.Goals as goal
 
 pub returns-in-Some : goal.returns-in-Some

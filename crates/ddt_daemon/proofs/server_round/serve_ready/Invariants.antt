@@ -1,5 +1,5 @@
 use Rattle.std.proofs.Common.{◌≡◌, length}
-use Rattle.ddt_wires.specs.Turns.{most_bytes}
+use Rattle.ddt_sockets.specs.Turns.{most_bytes}
 use Rattle.ddt_daemon.proofs.TurnLemmas.{HasTurned}
 use Rattle.ddt_daemon.proofs.server_round.serve_ready.Given as goal
 

@@ -1,5 +1,5 @@
 use Rattle.std.proofs.Common.{[], ap, sym, ◌∙◌, inl, inr}
-use Rattle.ddt_wires.specs.laws.Tell.{tells_none}
+use Rattle.ddt_sockets.specs.laws.Tell.{tells_none}
 use Rattle.ddt_daemon.specs.declared.service.Service.TheVariants.{Client, Itr}
 use Rattle.ddt_daemon.specs.ServerTurns.{out_of_memory}
 use Rattle.ddt_daemon.proofs.TurnLemmas.{served_as, nothing_for, tried_as}
@@ -7,7 +7,7 @@ use Rattle.ddt_daemon.proofs.server_round.serve_request.Goals as goal
 
 pub returns-in_default : goal.returns-in_default
 returns-in_default g c =
-    let role = ap (λ o. o.role) c.config.ensures in (
+    let role = c.role.ensures in (
       [],
       tells_none _,
       served_as c.args.server.now c.args.door.now.settings.now c.args.door.now.at c.args.packet c.args.bytes.now c.args.request.now
@@ -18,7 +18,7 @@ returns-in_default g c =
 
 pub returns-in-Ok : goal.returns-in-Ok
 returns-in-Ok g c =
-    let role = ap (λ o. o.role) c.config.ensures in
+    let role = c.role.ensures in
     let w = c.send_all.ensures in (
       w.0,
       w.1,
@@ -28,7 +28,7 @@ returns-in-Ok g c =
 
 pub returns-in-Ok-to_itr : goal.returns-in-Ok-to_itr
 returns-in-Ok-to_itr g c =
-    let role = ap (λ o. o.role) c.config.ensures in
+    let role = c.role.ensures in
     let w = c.send_all-in-Ok-to_itr.ensures in (
       w.0,
       w.1,
@@ -39,7 +39,7 @@ returns-in-Ok-to_itr g c =
 
 pub returns-in-Err : goal.returns-in-Err
 returns-in-Err g c =
-    let role = ap (λ o. o.role) c.config.ensures in (
+    let role = c.role.ensures in (
       [],
       tells_none _,
       out_of_memory c.args.packet c.args.bytes.now c.args.request.now c.requires (inl (rw role at (sym c.service_for-service.ensures ∙ c.in-Client.is))),
@@ -47,7 +47,7 @@ returns-in-Err g c =
 
 pub returns-in-Err-to_itr : goal.returns-in-Err-to_itr
 returns-in-Err-to_itr g c =
-    let role = ap (λ o. o.role) c.config.ensures in (
+    let role = c.role.ensures in (
       [],
       tells_none _,
       out_of_memory c.args.packet c.args.bytes.now c.args.request.now c.requires (inr (rw role at (sym c.service_for-service.ensures ∙ c.in-Itr.is))),

@@ -1,5 +1,5 @@
 use Rattle.std.proofs.Common.{[]}
-use Rattle.ddt_wires.specs.laws.Tell.{tells_none}
+use Rattle.ddt_sockets.specs.laws.Tell.{tells_none}
 use Rattle.ddt_map_server.specs.Registering.{refused, taken}
 use Rattle.ddt_map_server.proofs.registering.take.Goals as goal
 

@@ -2,7 +2,7 @@ use Rattle.std.proofs.Common.{Option, subst}
 use Rattle.ddt_organisations.specs.declared.faults.TreeFault.{TreeFault}
 use Rattle.ddt_organisations.specs.Faults.{IsSeamFault}
 use Rattle.ddt_organisations.proofs.ToldLemmas.{more_refl}
-use Rattle.ddt_organisations.proofs.SeamLemmas.{told_none, told_some, more_some}
+use Rattle.ddt_organisations.proofs.MeetingLemmas.{told_none, told_some, more_some}
 use Rattle.ddt_organisations.proofs.faults.push_seam.Goals as goal
 
 pub returns-in_ok-push-in-Some : goal.returns-in_ok-push-in-Some

@@ -4,7 +4,7 @@ use Rattle.std.specs.BTreeSet.{contains}
 use Rattle.std.specs.Map.Iter.{deref}
 use Rattle.std.proofs.lemmas.Map.Iter.{rest_more, rest_all}
 use Rattle.ddt_path.specs.laws.Member.{IsIn}
-use Rattle.ddt_organisations.proofs.SeamLemmas.{seams_first, seams_more, seams_all}
+use Rattle.ddt_organisations.proofs.MeetingLemmas.{seams_first, seams_more, seams_all}
 use Rattle.ddt_organisations.proofs.faults.push_seams.Goals as goal
 
 pub loop-other-init : goal.loop-other-init

@@ -1,6 +1,6 @@
 use Rattle.std.specs.Ordering.{nat_cmp}
 use Rattle.std.specs.BTreeSet.{contains}
-use Rattle.ddt_organisations.proofs.SeamLemmas.{AreSeamsSoFar}
+use Rattle.ddt_organisations.proofs.MeetingLemmas.{AreSeamsSoFar}
 use Rattle.ddt_organisations.proofs.faults.push_seams.Given as goal
 
 abbrev pub invariant-loop-other : goal.invariant-loop-other

@@ -2,7 +2,7 @@ use Rattle.std.proofs.Common.{true, false, refl, sym, ap, ◌∙◌, rules}
 use Rattle.std.specs.Option.{option_copied}
 use Rattle.ddt_organisations.specs.Meets.{seen}
 use Rattle.ddt_organisations.specs.Found.{IsNumber}
-use Rattle.ddt_organisations.proofs.SeamLemmas.{got, good_seam, bad_seam, too_many, said_when, good_at}
+use Rattle.ddt_organisations.proofs.MeetingLemmas.{got, good_seam, bad_seam, too_many, said_when, good_at}
 use Rattle.ddt_organisations.proofs.faults.seam_fault.Goals as goal
 
 pub returns-in_default-found : goal.returns-in_default-found

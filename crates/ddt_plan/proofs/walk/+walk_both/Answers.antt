@@ -30,11 +30,12 @@ walk_both-requires g t c κs within =
     let s = c.args.after.now in
     let room : length c.args.whole < 161 = (keys_go_on (keys_of r ++ keys_of s) (both_are_paths r s) c.args.whole
     (sides_divided r s c.args.whole c.args.sides.now c.requires (sym c.both_settled.ensures ∙ c.in-None.is))).1 in
-    let longer : length c.args.whole < length c.in-Some-jump.inner =
-    subst (λ o. IfSome o (λ at. length c.args.whole < length at.0)) c.in-Some-jump.is c.jump.ensures.longer in
-    let less : 161 - length c.in-Some-jump.inner < 161 - length c.args.whole = omega (arith, room, longer) in
-    let sides : AreSides r s c.in-Some-jump.inner c.in-Some-jump.within =
-    subst (λ o. IfSome o (λ at. AreSides r s at.0 at.1)) c.in-Some-jump.is c.jump.ensures.sides in
+    let longer : length c.args.whole < length c.in-Some-skip_unchanged.inner =
+    subst (λ o. IfSome o (λ at. length c.args.whole < length at.0)) c.in-Some-skip_unchanged.is
+    c.skip_unchanged.ensures.longer in
+    let less : 161 - length c.in-Some-skip_unchanged.inner < 161 - length c.args.whole = omega (arith, room, longer) in
+    let sides : AreSides r s c.in-Some-skip_unchanged.inner c.in-Some-skip_unchanged.within =
+    subst (λ o. IfSome o (λ at. AreSides r s at.0 at.1)) c.in-Some-skip_unchanged.is c.skip_unchanged.ensures.sides in
     search rules
 
 pub walk_both-requires-in-None : goal.walk_both-requires-in-None

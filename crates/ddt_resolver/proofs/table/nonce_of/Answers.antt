@@ -1,6 +1,6 @@
 use Rattle.std.proofs.Common.{ℕ, ap, inl, inr, sym, ◌∙◌, refl, arith}
 use Rattle.slab.proofs.SlabLemmas.{Contains-cons, Contains-cons_cases, Contains-entries}
-use Rattle.ddt_resolver.specs.Waiting.{Waiting}
+use Rattle.ddt_resolver.specs.TicketedLookup.{TicketedLookup}
 use Rattle.ddt_resolver.proofs.table.nonce_of.Goals as goal
 
 pub loop-slot-init : goal.loop-slot-init
@@ -18,7 +18,7 @@ loop-slot-preserved c =
       tt,
       tt,
       λ slot w found same. elim (Contains-cons_cases _ _ _ (rw at at (c.loop-slot.invariant.2 slot w found same))) [
-        | inl e ↦ elim (c.if-waiting-ticket.false (ap (λ (x : Waiting). x.ticket) c.waiting.view_is ∙ ap (λ (x : ℕ × Waiting). x.1.ticket) e ∙ same)) [ ]
+        | inl e ↦ elim (c.if-waiting-ticket.false (ap (λ (x : TicketedLookup). x.ticket) c.waiting.view_is ∙ ap (λ (x : ℕ × TicketedLookup). x.1.ticket) e ∙ same)) [ ]
         | inr rest ↦ rest
       ],
       λ slot w there. c.loop-slot.invariant.3 slot w (rw at (Contains-cons _ _ _ there)),
@@ -30,6 +30,6 @@ returns-then-waiting-ticket-clause-found c =
       c.in-Some._slot,
       c.in-Some.waiting.now,
       c.loop-slot.invariant.3 c.in-Some._slot c.in-Some.waiting.now (rw at (0, omega arith, refl)),
-      ap (λ (x : Waiting). x.ticket) (sym c.waiting.view_is) ∙ c.if-waiting-ticket.true,
-      ap (λ (x : Waiting). x.lookup.nonce) (sym c.waiting.view_is),
+      ap (λ (x : TicketedLookup). x.ticket) (sym c.waiting.view_is) ∙ c.if-waiting-ticket.true,
+      ap (λ (x : TicketedLookup). x.lookup.nonce) (sym c.waiting.view_is),
     )

@@ -39,14 +39,14 @@ use Rattle.ddt_path.specs.contracts.prefix.Prefix as prefix
 use Rattle.ddt_path.specs.contracts.xeid.Xeid as xeid
 use Rattle.ddt_path.proofs.prefix.Prefix.TheLaws as prefix'
 use Rattle.ddt_path.proofs.xeid.Xeid.TheLaws as xeid'
-use Rattle.ddt_cache.specs.declared.entry.Entry.{Entry}
+use Rattle.ddt_cache.specs.declared.cache_entry.Entry.{Entry}
 use Rattle.ddt_cache.specs.Found.{IsFound}
 use Rattle.ddt_cache.specs.Lending.{EndsAs}
 use Rattle.ddt_cache.specs.Live.{Known, moved}
 use Rattle.ddt_cache.specs.contracts.cache.Cache as cache
-use Rattle.ddt_cache.specs.contracts.entry.Entry as entry
+use Rattle.ddt_cache.specs.contracts.cache_entry.Entry as entry
 use Rattle.ddt_cache.specs.contracts.moment.Moment as moment
-use Rattle.ddt_cache.proofs.entry.Entry.TheLaws as entry'
+use Rattle.ddt_cache.proofs.cache_entry.Entry.TheLaws as entry'
 use Rattle.ddt_cache.proofs.moment.Moment.TheLaws as moment'
 use Rattle.ddt_cache.specs.contracts.cache.Cache.find as f
 use Rattle.ddt_cache.specs.contracts.cache.Cache.find.Key.{name}

@@ -1,7 +1,7 @@
 use Rattle.std.proofs.Common.{refl, ap, inl, inr}
 use Rattle.ddt_path.specs.Path.{xeid_path}
 use Rattle.std.specs.Prelude.{is_some}
-use Rattle.ddt_cache.specs.declared.entry.Entry.{Entry}
+use Rattle.ddt_cache.specs.declared.cache_entry.Entry.{Entry}
 use Rattle.std.proofs.Common.{Option}
 use Rattle.ddt_cache.specs.Live.{known_of}
 use Rattle.ddt_cache.specs.laws.Known.{found_known}

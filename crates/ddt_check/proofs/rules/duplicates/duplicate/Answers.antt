@@ -1,5 +1,5 @@
 use Rattle.std.proofs.Common.{◌∙◌, map, sym, ap, refl, true, false, Some}
-use Rattle.ddt_check.specs.declared.entries.Entry.{Entry}
+use Rattle.ddt_check.specs.declared.entries.SortEntry.{SortEntry}
 use Rattle.ddt_check.specs.Rules.{is_duplicate}
 use Rattle.ddt_check.proofs.EntryLemmas.{item_is, inside_items, past_items, item_there}
 use Rattle.ddt_check.proofs.LeastLemmas.{passes_at, least_if, least_of_all}
@@ -10,7 +10,7 @@ pub loop-at-preserved : goal.loop-at-preserved
 loop-at-preserved g c = λ all rises moved.
     let row = g.T.Item.row_of in
     let repeated = is_duplicate g.T.Keyed.key row all in
-    let item = λ (e : Entry g.row.T.Denot g.T.Keyed g.T.Item). e.item.now in
+    let item = λ (e : SortEntry g.row.T.Denot g.T.Keyed g.T.Item). e.item.now in
     let entries = c.args.entries.now in
     let items = map item entries in
     let i = c.loop-at.at in
@@ -32,7 +32,7 @@ loop-at-preserved g c = λ all rises moved.
 pub returns : goal.returns
 returns g c = λ all rises moved.
     let row = g.T.Item.row_of in
-    let item = λ (e : Entry g.row.T.Denot g.T.Keyed g.T.Item). e.item.now in
+    let item = λ (e : SortEntry g.row.T.Denot g.T.Keyed g.T.Item). e.item.now in
     let entries = c.args.entries.now in
     least_of_all (passes_at row (is_duplicate g.T.Keyed.key row all)) all (map item entries) c.loop-at.at c.loop-at.least
     moved (past_items item entries c.loop-at.at c.loop-at-test.false) (c.loop-at.invariant all rises moved)

@@ -1,6 +1,6 @@
 use Rattle.std.proofs.Common.{◌≡◌, ◌+◌, ◌-◌, ◌<◌, length, map, sym, ◌∙◌, arith}
 use Rattle.ddt_register.specs.laws.RowOrder.{rising_from_rise}
-use Rattle.ddt_check.specs.declared.entries.Entry.{Entry}
+use Rattle.ddt_check.specs.declared.entries.SortEntry.{SortEntry}
 use Rattle.ddt_check.specs.laws.Order.{duplicate-beside, duplicate-first}
 use Rattle.ddt_check.proofs.EntryLemmas.{inside_items, item_is}
 use Rattle.ddt_check.proofs.rules.duplicates.repeats.Goals as goal
@@ -9,7 +9,7 @@ pub returns-then-at-eq0 : goal.returns-then-at-eq0
 returns-then-at-eq0 g c = λ all d rises moved.
     let key = g.T.Keyed.key in
     let row = g.T.Item.row_of in
-    let item = λ (e : Entry g.row.T.Denot g.T.Keyed g.T.Item). e.item.now in
+    let item = λ (e : SortEntry g.row.T.Denot g.T.Keyed g.T.Item). e.item.now in
     let items = map item c.args.entries.now in
     let zero : c.args.at ≡ 0 = c.if-at-eq0.true in
     let lt : c.args.at < length items = inside_items item c.args.entries.now c.args.at c.requires.inside in
@@ -19,7 +19,7 @@ pub returns : goal.returns
 returns g c = λ all d rises moved.
     let key = g.T.Keyed.key in
     let row = g.T.Item.row_of in
-    let item = λ (e : Entry g.row.T.Denot g.T.Keyed g.T.Item). e.item.now in
+    let item = λ (e : SortEntry g.row.T.Denot g.T.Keyed g.T.Item). e.item.now in
     let entries = c.args.entries.now in
     let items = map item entries in
     let at : c.args.at < length entries = c.requires.inside in

@@ -1,6 +1,6 @@
 use Rattle.std.proofs.Common.{◌≡◌, take}
 use Rattle.std.specs.List.{flat_map}
-use Rattle.ddt_commands.specs.Lookup.{replied_line}
+use Rattle.ddt_commands.specs.Commands.Lookup.{replied_line}
 use Rattle.ddt_commands.proofs.commands.lookup.found_text.Given as goal
 
 abbrev pub invariant-loop-hop : goal.invariant-loop-hop

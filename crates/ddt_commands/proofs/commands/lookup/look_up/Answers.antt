@@ -1,5 +1,5 @@
 use Rattle.std.proofs.Common.{Bool, subst, sym}
-use Rattle.ddt_commands.specs.Lookup.{IsLookupTold}
+use Rattle.ddt_commands.specs.Commands.Lookup.{IsLookupTold}
 use Rattle.ddt_commands.proofs.LookupLemmas.{told_outcome, told_unfound}
 use Rattle.ddt_wire.specs.laws.Message.{messages_are_read}
 use Rattle.ddt_commands.proofs.commands.lookup.look_up.Goals as goal

@@ -2,7 +2,7 @@ use Rattle.std.proofs.Common.{take}
 use Rattle.ddt_register.specs.declared.register.Register.{Register}
 use Rattle.ddt_sim.specs.Compiled.{AreCompiled}
 use Rattle.ddt_sim.specs.Sound.{IsSound}
-use Rattle.ddt_commands.specs.Lookup.{AreTold}
+use Rattle.ddt_commands.specs.Commands.Lookup.{AreTold}
 use Rattle.ddt_commands.proofs.commands.lookup.look_up_each.Given as goal
 
 abbrev pub invariant-loop-x : goal.invariant-loop-x

@@ -1,5 +1,11 @@
-use Rattle.ddt_commands.proofs.PrintedLemmas.{has_text}
+use Rattle.std.specs.Fn.{FnReturnsAt}
+use Rattle.ddt_commands.specs.CommandLine.Call.{call_of}
+use Rattle.ddt_commands.specs.Commands.Lookup.{lookup_prints}
+use Rattle.ddt_commands.proofs.EndLemmas.{ends}
 use Rattle.ddt_commands.proofs.commands.lookup.run_lookup.Goals as goal
 
-pub returns-in-Ok-clause-answered : goal.returns-in-Ok-clause-answered
-returns-in-Ok-clause-answered g c = has_text _ _ _ _ _ _ c.in-Ok.ensures.text c.answer.ensures.ends c.answer.ensures.printed
+pub returns : goal.returns
+returns g c =
+    let ensures = c.lines_over-answer.ensures in
+    ends (lookup_prints (FnReturnsAt g.O.Fn c.args.open_file.now) g.F.Read.remaining (call_of c.args.words.now)) c.lines_over-answer.result c.print_result.result _
+    ensures.text ensures.refused c.print_result.ensures

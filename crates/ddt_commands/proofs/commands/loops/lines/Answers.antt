@@ -1,8 +1,8 @@
 use Rattle.std.proofs.Common.{◌≡◌, Err, List, ℕ, refl, rules, sym, subst, ◌∙◌}
 use Rattle.std.proofs.lemmas.Result.{IfErr-weaker, IfOk-weaker}
-use Rattle.ddt_words.specs.Call.{call_of}
+use Rattle.ddt_commands.specs.CommandLine.Call.{call_of}
 use Rattle.ddt_commands.specs.Register.{IsWhyNoRegister}
-use Rattle.ddt_commands.specs.Loop.{bad, no_file, no_memory, no_run, not_loopback}
+use Rattle.ddt_commands.specs.Commands.Loop.{bad, no_file, no_memory, no_run, not_loopback}
 use Rattle.ddt_commands.proofs.LoopLemmas.{good_words}
 use Rattle.ddt_commands.proofs.OverLemmas.{of_register}
 use Rattle.ddt_commands.proofs.commands.loops.lines.Goals as goal

@@ -1,6 +1,6 @@
 use Rattle.std.proofs.Common.{codes, inr, refl}
 use Rattle.std.proofs.lemmas.Result.{IfErr-weaker, IfOk-weaker}
-use Rattle.ddt_words.specs.Call.{all_values, call_of}
+use Rattle.ddt_commands.specs.CommandLine.Call.{all_values, call_of}
 use Rattle.ddt_commands.proofs.LookupLemmas.{values_are}
 use Rattle.ddt_commands.proofs.ReplayLemmas.{good_words}
 use Rattle.ddt_commands.proofs.commands.replay.lines.Goals as goal

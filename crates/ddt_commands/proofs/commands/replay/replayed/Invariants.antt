@@ -1,6 +1,6 @@
 use Rattle.std.proofs.Common.{take}
 use Rattle.std.specs.Fn.{FnReturnsAt}
-use Rattle.ddt_commands.specs.Replay.{AreRegistersAt}
+use Rattle.ddt_commands.specs.Commands.Replay.{AreRegistersAt}
 use Rattle.ddt_commands.proofs.Texts.{texts}
 use Rattle.ddt_commands.proofs.commands.replay.replayed.Given as goal
 

@@ -6,8 +6,8 @@ use Rattle.ddt_commands.proofs.commands.serve.serve_at.Goals as goal
 pub returns-in-Err-clause-refused : goal.returns-in-Err-clause-refused
 returns-in-Err-clause-refused g c = inl (
   c.in-Err.error,
-  binds_as g.B.Fn c.args.bind _ _ c.args.at c.bind.result (Err c.in-Err.error) c.in-Err.is c.bind.ensures,
-  c.unbound.ensures ∙ ap (bind_refusal c.args.at) c.kind.ensures,
+  binds_as g.B.Fn c.args.bind.now _ _ c.args.at c.bind.result (Err c.in-Err.error) c.in-Err.is c.bind.ensures,
+  c.refused_bind.ensures ∙ ap (bind_refusal c.args.at) c.kind.ensures,
 )
 
 pub returns-clause-text : goal.returns-clause-text
@@ -16,7 +16,7 @@ returns-clause-text g c =
       c.serve_turns-served.result,
       (
         c.bind.new.arg2,
-        binds_as g.B.Fn c.args.bind _ _ c.args.at c.bind.result (Ok tt) c.in_default-bind.is c.bind.ensures,
+        binds_as g.B.Fn c.args.bind.now _ _ c.args.at c.bind.result (Ok tt) c.in_default-bind.is c.bind.ensures,
         (served.0, served.1, rw (sym c.in-Ok.ensures.built) served.2),
       ),
       c.in_ok-served_line.ensures,

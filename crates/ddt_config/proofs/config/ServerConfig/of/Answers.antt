@@ -2,7 +2,7 @@ use Rattle.std.proofs.Common.{sym}
 use Rattle.ddt_config.proofs.RoomLemmas.{authorities_fit}
 use Rattle.ddt_config.proofs.config.ServerConfig.of.Goals as goal
 
-pub settle_each-requires : goal.settle_each-requires
-settle_each-requires c =
-    let shaped = sym (rw c.in_ok-judged.ensures.right at c.is_shaped.ensures) in
+pub finish_each-requires : goal.finish_each-requires
+finish_each-requires c =
+    let shaped = sym (rw c.in_ok-require_shaped.ensures.right at c.is_shaped.ensures) in
     authorities_fit c.draft.inside.role c.as_slice-locators.result.now c.as_slice-authorities.result.now shaped

@@ -1,5 +1,5 @@
 use Rattle.std.proofs.Common.{[], refl}
-use Rattle.ddt_wires.specs.laws.Tell.{tells_none}
+use Rattle.ddt_sockets.specs.laws.Tell.{tells_none}
 use Rattle.ddt_daemon.specs.Rounds.{shares, asks}
 use Rattle.ddt_daemon.proofs.map_resolver.MapResolver.ask.Goals as goal
 

@@ -1,5 +1,5 @@
 use Rattle.std.proofs.Common.{[], ◌++◌, ◌∙◌, refl}
-use Rattle.ddt_wires.specs.laws.Tell.{tells_both, tells_none}
+use Rattle.ddt_sockets.specs.laws.Tell.{tells_both, tells_none}
 use Rattle.ddt_daemon.specs.Goes.{starts}
 use Rattle.ddt_daemon.proofs.CloseLemmas.{closed_one, none_left}
 use Rattle.ddt_daemon.proofs.map_resolver.MapResolver.close.Goals as goal

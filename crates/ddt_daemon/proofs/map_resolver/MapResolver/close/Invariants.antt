@@ -1,6 +1,6 @@
 use Rattle.std.proofs.Common.{◌≡◌, List, length}
-use Rattle.ddt_wires.specs.declared.call.Call.{Call}
-use Rattle.ddt_wires.specs.Calls.{RecordsCalls}
+use Rattle.ddt_sockets.specs.declared.wire_calls.Call.{Call}
+use Rattle.ddt_sockets.specs.Calls.{RecordsCalls}
 use Rattle.ddt_daemon.specs.Goes.{Closes}
 use Rattle.ddt_daemon.proofs.map_resolver.MapResolver.close.Given as goal
 

@@ -1,5 +1,5 @@
 use Rattle.std.proofs.Common.{[], refl, None, Some}
-use Rattle.ddt_wires.specs.laws.Tell.{tells_none}
+use Rattle.ddt_sockets.specs.laws.Tell.{tells_none}
 use Rattle.ddt_daemon.specs.Rounds.{other_port, spelled, lost_whole}
 use Rattle.ddt_daemon.proofs.map_resolver.MapResolver.hear.Goals as goal
 

@@ -1,15 +1,15 @@
 use Rattle.std.proofs.Common.{◌≡◌, ℕ, [], ◌∷◌, length, take, subst, arith, refl, Ok, Err, Some, None}
-use Rattle.ddt_wires.specs.declared.call.Call.TheVariants.{Received}
-use Rattle.ddt_wires.specs.Calls.{RecordsCalls}
-use Rattle.ddt_wires.specs.Turns.{most_bytes}
-use Rattle.ddt_wires.specs.laws.Tell.{tells_both, tells_none}
+use Rattle.ddt_sockets.specs.declared.wire_calls.Call.TheVariants.{Received}
+use Rattle.ddt_sockets.specs.Calls.{RecordsCalls}
+use Rattle.ddt_sockets.specs.Turns.{most_bytes}
+use Rattle.ddt_sockets.specs.laws.Tell.{tells_both, tells_none}
 use Rattle.ddt_loop.specs.Polls.{polled}
 use Rattle.ddt_daemon.specs.Rounds.{no_packet, failed, came}
 use Rattle.ddt_daemon.proofs.map_resolver.MapResolver.receive.Goals as goal
 
 pub returns-in-Ok-Some-clause-round : goal.returns-in-Ok-Some-clause-round
 returns-in-Ok-Some-clause-round g c =
-    let w = c.let_in.ensures in
+    let w = c.handle_packet.ensures in
     let bytes = take c.in-Ok-Some.packet.len c.receive.new.buffer in
     let room : length c.receive.new.buffer ≡ most_bytes = omega (arith, c.receive.auto.buffer, c.requires) in
     let first = polled c.args.me (Ok (Some c.in-Ok-Some.packet)) bytes in
@@ -18,7 +18,7 @@ returns-in-Ok-Some-clause-round g c =
       first ∷ w.0,
       w.1,
       tells_both (g.W.Wires.calls c.args.near.now) (first ∷ []) (g.W.Wires.calls c.receive.new.self) w.0
-          (g.W.Wires.calls c.let_in.new.near) (subst told room (rw c.in-Ok-Some.field-0-is at c.in-Ok-Some.ensures.told)) w.2,
+          (g.W.Wires.calls c.handle_packet.new.near) (subst told room (rw c.in-Ok-Some.field-0-is at c.in-Ok-Some.ensures.told)) w.2,
       w.3,
       search,
       came c.in-Ok-Some.packet bytes w.0 refl w.4,

@@ -1,5 +1,5 @@
 use Rattle.std.proofs.Common.{[], ◌++◌, append-nil, Some, None, refl, sym}
-use Rattle.ddt_wires.specs.laws.Tell.{tells_both, tells_none}
+use Rattle.ddt_sockets.specs.laws.Tell.{tells_both, tells_none}
 use Rattle.ddt_daemon.proofs.EndLemmas.{is_none}
 use Rattle.ddt_daemon.proofs.map_resolver.MapResolver.tick.Goals as goal
 

@@ -1,6 +1,6 @@
 use Rattle.std.proofs.Common.{List}
-use Rattle.ddt_wires.specs.declared.call.Call.{Call}
-use Rattle.ddt_wires.specs.Calls.{RecordsCalls}
+use Rattle.ddt_sockets.specs.declared.wire_calls.Call.{Call}
+use Rattle.ddt_sockets.specs.Calls.{RecordsCalls}
 use Rattle.ddt_daemon.specs.Rounds.{resolving, AreTicks}
 use Rattle.ddt_daemon.proofs.map_resolver.MapResolver.tick_due.Given as goal
 

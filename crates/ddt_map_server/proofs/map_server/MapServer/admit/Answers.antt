@@ -1,5 +1,5 @@
 use Rattle.std.proofs.Common.{[], refl, sym, ◌∙◌}
-use Rattle.ddt_wires.specs.laws.Tell.{tells_none}
+use Rattle.ddt_sockets.specs.laws.Tell.{tells_none}
 use Rattle.ddt_map_server.specs.Turns.{limited, registers}
 use Rattle.ddt_map_server.proofs.map_server.MapServer.admit.Goals as goal
 

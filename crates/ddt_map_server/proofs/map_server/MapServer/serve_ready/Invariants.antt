@@ -1,6 +1,6 @@
 use Rattle.std.proofs.Common.{◌≡◌, length}
 use Rattle.ddt_config.specs.Table.{Outline}
-use Rattle.ddt_wires.specs.Turns.{most_bytes}
+use Rattle.ddt_sockets.specs.Turns.{most_bytes}
 use Rattle.ddt_map_server.specs.Turns.{Follows}
 use Rattle.ddt_map_server.proofs.TurnLemmas.{HasTurned}
 use Rattle.ddt_map_server.proofs.map_server.MapServer.serve_ready.Given as goal

@@ -1,8 +1,8 @@
 use Rattle.std.proofs.Common.{◌≡◌, ℕ, [], ◌∷◌, length, subst, arith, refl}
 use Rattle.std.specs.Prelude.{None, Ok, Err}
-use Rattle.ddt_wires.specs.declared.call.Call.TheVariants.{Received}
-use Rattle.ddt_wires.specs.Calls.{RecordsCalls}
-use Rattle.ddt_wires.specs.Turns.{most_bytes}
+use Rattle.ddt_sockets.specs.declared.wire_calls.Call.TheVariants.{Received}
+use Rattle.ddt_sockets.specs.Calls.{RecordsCalls}
+use Rattle.ddt_sockets.specs.Turns.{most_bytes}
 use Rattle.ddt_daemon.specs.ServerTurns.{no_packet, failed}
 use Rattle.ddt_map_server.specs.Turns.{served}
 use Rattle.ddt_map_server.proofs.map_server.MapServer.turn.Goals as goal

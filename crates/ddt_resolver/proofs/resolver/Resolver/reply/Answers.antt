@@ -3,7 +3,7 @@ use Rattle.std.specs.FinMap.{get}
 use Rattle.ddt_wire.specs.Referral.{Message, message_record}
 use Rattle.ddt_wire.specs.laws.Message.{messages_are_read}
 use Rattle.ddt_resolver.specs.State.{State}
-use Rattle.ddt_resolver.specs.TakeUp.{undecodable, unknown_nonce}
+use Rattle.ddt_resolver.specs.MatchReply.{undecodable, unknown_nonce}
 use Rattle.ddt_resolver.proofs.resolver.Resolver.reply.Goals as goal
 
 pub returns-in-Err-clause-refused : goal.returns-in-Err-clause-refused

@@ -4,14 +4,14 @@ use Rattle.ddt_trie.proofs.WayLemmas.{into_low, into_high}
 use Rattle.ddt_trie.proofs.LeafLemmas.{leaf_longest, leaf_uncovered}
 use Rattle.ddt_trie.proofs.DescentLemmas.{IsMetNext, found_at_end, go_on}
 use Rattle.ddt_trie.proofs.tree.Tree.longest.Goals as goal
-use Rattle.ddt_trie.proofs.tree.Tree.longest.Goals.{in-Some, in_default-value, in-Zero, in-One}
+use Rattle.ddt_trie.proofs.tree.Tree.longest.Goals.{in-Some, in_default-entry, in-Zero, in-One}
 
 pub returns-in-End-clause-found : goal.returns-in-End-clause-found
 returns-in-End-clause-found g c =
     let met : IsMetNext c.loop-tree.depth c.loop-tree.tree.now c.loop-tree.best c.match-deref.best =
     elim c.match-deref.branch [
-      | in-Some w ↦ inl (_, rw (c.in-Fork.is, ← c.deref.ensures) w.in-Some.is, w.best-is)
-      | in_default-value w ↦ inr (rw (c.in-Fork.is, ← c.deref.ensures) w.in_default-value.is, w.best-is)
+      | in-Some w ↦ inl (_, rw (c.in-Fork.is, ← c.deref.ensures, w.in-Some.is, w.deref-in-Some.ensures), w.best-is)
+      | in_default-entry w ↦ inr (rw (c.in-Fork.is, ← c.deref.ensures, w.in_default-entry.is), w.best-is)
     ] in
     found_at_end c.loop-tree.invariant.1 (rw (c.len-len.ensures.digits, c.inner-x.ensures.front) at c.in-End.ensures) met
 
@@ -21,11 +21,11 @@ loop-tree-preserved g c =
     let node = c.in-Fork.node.value in
     let met : IsMetNext depth c.loop-tree.tree.now c.loop-tree.best c.match-deref.best =
     elim c.match-deref.branch [
-      | in-Some w ↦ inl (_, rw (c.in-Fork.is, ← c.deref.ensures) w.in-Some.is, w.best-is)
-      | in_default-value w ↦ inr (rw (c.in-Fork.is, ← c.deref.ensures) w.in_default-value.is, w.best-is)
+      | in-Some w ↦ inl (_, rw (c.in-Fork.is, ← c.deref.ensures, w.in-Some.is, w.deref-in-Some.ensures), w.best-is)
+      | in_default-entry w ↦ inr (rw (c.in-Fork.is, ← c.deref.ensures, w.in_default-entry.is), w.best-is)
     ] in
     let rooted = rw c.in-Fork.is at c.loop-tree.invariant.2 in
-    elim c.match-turn_of.branch [
+    elim c.match-branch_of_xeid.branch [
       | in-Zero w ↦
           let goes = rw (c.len-len.ensures.digits, c.inner-x.ensures.front) at w.in-Zero.ensures in
           rw (w.tree-is, w.deref-in-Zero.ensures) (

@@ -1,5 +1,5 @@
 use Rattle.std.proofs.Common.{Some, sym, ap, ◌∙◌, arith}
-use Rattle.ddt_trie.proofs.GapLemmas.{counts_all, met_covers, covered_none, gap_not_covered, gap_free, gap_within}
+use Rattle.ddt_trie.proofs.HoleLemmas.{counts_all, met_covers, covered_none, hole_not_covered, hole_free, hole_within}
 use Rattle.ddt_trie.proofs.trie_map.TrieMapPrefixMap.free.Goals as goal
 
 pub returns-in_err-len-clause-first : goal.returns-in_err-len-clause-first
@@ -14,15 +14,15 @@ returns-in_err-len-clause-none g c =
 
 pub cut-requires : goal.cut-requires
 cut-requires g c =
-    gap_within (rw c.host.ensures.whole at c.in_ok-len.ensures.found) c.requires (counts_all _ c.args.from)
+    hole_within (rw c.host.ensures.whole at c.in_ok-len.ensures.found) c.requires (counts_all _ c.args.from)
     c.max.ensures c.len.ensures.digits
 
 pub returns-clause-first : goal.returns-clause-first
 returns-clause-first g c =
     ap Some c.cut.ensures
-    ∙ sym (gap_free (rw c.host.ensures.whole at c.in_ok-len.ensures.found) c.requires (counts_all _ c.args.from)
+    ∙ sym (hole_free (rw c.host.ensures.whole at c.in_ok-len.ensures.found) c.requires (counts_all _ c.args.from)
     c.max.ensures c.len.ensures.digits)
 
 pub returns-clause-covered : goal.returns-clause-covered
 returns-clause-covered g c = λ key.
-    absurd (gap_not_covered (rw c.host.ensures.whole at c.in_ok-len.ensures.found) key.0 key.1 (omega arith) key.2)
+    absurd (hole_not_covered (rw c.host.ensures.whole at c.in_ok-len.ensures.found) key.0 key.1 (omega arith) key.2)

@@ -2,11 +2,11 @@ use Rattle.std.proofs.Common.{Some, sym, ap, ◌∙◌, arith}
 use Rattle.ddt_path.specs.Path.{xeid_path}
 use Rattle.ddt_path.specs.laws.Cover.{length-covered, fronts_overlap}
 use Rattle.ddt_path.specs.laws.Front.{below_parts, longer_below}
-use Rattle.ddt_trie.proofs.GapLemmas.{counts_below, met_covers, covered_none, gap_not_covered, gap_free, gap_within}
+use Rattle.ddt_trie.proofs.HoleLemmas.{counts_below, met_covers, covered_none, hole_not_covered, hole_free, hole_within}
 use Rattle.ddt_trie.proofs.trie_map.TrieMapPrefixMap.free_below.Goals as goal
 
-pub gap-requires-clause-near : goal.gap-requires-clause-near
-gap-requires-clause-near g c =
+pub least_specific_hole-requires-clause-near : goal.least_specific_hole-requires-clause-near
+least_specific_hole-requires-clause-near g c =
     rw c.host.ensures.whole
     (omega (arith, c.len.ensures.digits, length-covered c.args.from (xeid_path c.args.x) c.requires))
 
@@ -25,16 +25,16 @@ returns-in_err-len-clause-none g c =
 
 pub cut-requires : goal.cut-requires
 cut-requires g c =
-    gap_within (rw c.host.ensures.whole at c.in_ok-len.ensures.found) c.requires
+    hole_within (rw c.host.ensures.whole at c.in_ok-len.ensures.found) c.requires
     (counts_below _ c.args.from _ c.len.ensures.digits) c.max.ensures c.len-2.ensures.digits
 
 pub returns-clause-first : goal.returns-clause-first
 returns-clause-first g c =
     ap Some c.cut.ensures
-    ∙ sym (gap_free (rw c.host.ensures.whole at c.in_ok-len.ensures.found) c.requires
+    ∙ sym (hole_free (rw c.host.ensures.whole at c.in_ok-len.ensures.found) c.requires
     (counts_below _ c.args.from _ c.len.ensures.digits) c.max.ensures c.len-2.ensures.digits)
 
 pub returns-clause-covered : goal.returns-clause-covered
 returns-clause-covered g c = λ key.
-    absurd (gap_not_covered (rw c.host.ensures.whole at c.in_ok-len.ensures.found) key.0 key.1
+    absurd (hole_not_covered (rw c.host.ensures.whole at c.in_ok-len.ensures.found) key.0 key.1
     (omega (arith, c.len.ensures.digits, (below_parts key.0 c.args.from key.2).1)) key.3)

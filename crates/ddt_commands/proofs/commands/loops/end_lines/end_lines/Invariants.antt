@@ -1,7 +1,7 @@
 use Rattle.std.proofs.Common.{◌≡◌, ◌++◌}
 use Rattle.std.specs.Iterator.Adapters.{zip_first, zip_second}
 use Rattle.std.specs.Slice.Iter.{iter_rest}
-use Rattle.ddt_commands.specs.Loop.{end_lines}
+use Rattle.ddt_commands.specs.Commands.Loop.{end_lines}
 use Rattle.ddt_commands.proofs.commands.loops.end_lines.end_lines.Given as goal
 
 -- the lines of the identifiers before this one

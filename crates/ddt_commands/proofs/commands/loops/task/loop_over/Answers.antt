@@ -1,7 +1,7 @@
 use Rattle.std.proofs.Common.{◌≡◌, ◌∷◌, Err, List, ap, refl, rules, subst, sym, ◌∙◌}
 use Rattle.std.specs.List.{list_all}
 use Rattle.ddt_path.specs.declared.locator.Locator.{Locator}
-use Rattle.ddt_commands.specs.Loop.{end_lines, is_outcome, outside, unbound}
+use Rattle.ddt_commands.specs.Commands.Loop.{end_lines, is_outcome, outside, unbound}
 use Rattle.ddt_commands.specs.Loopback.{first_outside}
 use Rattle.ddt_commands.specs.Sockets.{AreBound, Binds, IsUnbound}
 use Rattle.ddt_commands.proofs.LoopLemmas.{is_run}
@@ -21,7 +21,7 @@ returns-in_err-bind_all-clause-refused g c = λ call asks.
     let bound = c.deref-2.ensures.value ∙ c.in_ok-sockets.ensures in
     let why = c.in_err-bind_all.ensures.refused in
     rw e (unbound c.args.task why.0 why.1 asks (ap first_outside (sym are) ∙ c.in_ok-are_on_loopback.ensures.inside)
-    (subst (λ (ls : List Locator). IsUnbound (Binds g.B.Fn c.args.bind) c.args.wires.now (c.args.task.me ∷ ls) why.0 why.1 c.bind_all.new.wires) bound why.2, refl) why.3)
+    (subst (λ (ls : List Locator). IsUnbound (Binds g.B.Fn c.args.bind.now) c.args.wires.now (c.args.task.me ∷ ls) why.0 why.1 c.bind_all.new.wires) bound why.2, refl) why.3)
 
 pub returns-clause-text : goal.returns-clause-text
 returns-clause-text g c = λ call asks.
@@ -35,7 +35,7 @@ returns-clause-text g c = λ call asks.
       ends = c.in_ok-ends.ends.items;
       come = (
         c.bind_all.new.wires,
-        subst (λ (ls : List Locator). AreBound (Binds g.B.Fn c.args.bind) c.args.wires.now (c.args.task.me ∷ ls) c.bind_all.new.wires) bound c.in_ok-bind_all.ensures.bound,
+        subst (λ (ls : List Locator). AreBound (Binds g.B.Fn c.args.bind.now) c.args.wires.now (c.args.task.me ∷ ls) c.bind_all.new.wires) bound c.in_ok-bind_all.ensures.bound,
         is_run c.a_step_keeps_a_resolver_sound.ensures.new c.args.register.now c.args.task c.roots.result c.new-resolver.result c.roots.ensures.group c.new-resolver.ensures
             c.in_ok-servers.servers c.in_ok-servers.ensures.compiled c.deref-3.result.now polled (g.W.Wires.calls c.bind_all.new.wires) (g.W.Wires.calls c.loop_turns.new.wires)
             (g.C.Clock.readings c.args.clock.now) (g.C.Clock.readings c.loop_turns.new.clock) c.in_ok-ends.ends.items c.loop_turns.new.resolver ran.answers ran.replies ran.unresolved ran.run,

@@ -1,5 +1,5 @@
 use Rattle.std.proofs.Common.{◌≡◌, ◌≤◌, ◌++◌, drop}
-use Rattle.ddt_commands.specs.Replay.{lines_from}
+use Rattle.ddt_commands.specs.Commands.Replay.{lines_from}
 use Rattle.ddt_commands.proofs.commands.replay.event_lines.event_lines.Given as goal
 
 abbrev pub invariant-loop-event : goal.invariant-loop-event

@@ -1,6 +1,6 @@
 use Rattle.std.proofs.Common.{ap, ◌∙◌}
 use Rattle.std.proofs.lemmas.Result.{IfOk-weaker}
-use Rattle.ddt_commands.specs.Replay.{lines_from}
+use Rattle.ddt_commands.specs.Commands.Replay.{lines_from}
 use Rattle.ddt_commands.proofs.ReplayLemmas.{told_run}
 use Rattle.ddt_commands.proofs.commands.replay.schedule.replay.Goals as goal
 

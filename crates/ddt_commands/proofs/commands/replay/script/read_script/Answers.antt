@@ -2,7 +2,7 @@ use Rattle.std.proofs.Common.{◌≡◌, ℕ, ◌+◌, true, eqb, List, length, 
 use Rattle.std.specs.Prelude.{not}
 use Rattle.std.proofs.lemmas.Iterator.Consumers.{YieldsList-at, YieldsList-from_filter}
 use Rattle.std.proofs.lemmas.Iterator.Splits.{YieldsList-from_slice_split}
-use Rattle.ddt_commands.specs.Script.{SpellSteps, lines_in}
+use Rattle.ddt_commands.specs.Commands.Script.{SpellSteps, lines_in}
 use Rattle.ddt_commands.proofs.ScriptLemmas.{ended, one_line, read_more, refused_here, turned}
 use Rattle.ddt_commands.proofs.commands.replay.script.read_script.Goals as goal
 

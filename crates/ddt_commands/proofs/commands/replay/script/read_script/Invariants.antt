@@ -1,4 +1,4 @@
-use Rattle.ddt_commands.specs.Script.{SpellSteps}
+use Rattle.ddt_commands.specs.Commands.Script.{SpellSteps}
 use Rattle.ddt_commands.proofs.Texts.{texts}
 use Rattle.ddt_commands.proofs.commands.replay.script.read_script.Given as goal
 

@@ -1,0 +1,3 @@
+//! The tests of `ddt_deploy::export`: worked groups, and what openoverlayrouter can't have of them.
+
+mod oor;

@@ -1,0 +1,3 @@
+//! The tests of `ddt_deploy::rollout`.
+
+mod steps;

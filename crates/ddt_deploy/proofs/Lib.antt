@@ -1,0 +1,4 @@
+pub mod FoldersLemmas
+pub mod RolloutLemmas
+pub mod LoopbackLemmas
+pub mod ExportLemmas

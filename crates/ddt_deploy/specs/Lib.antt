@@ -1,0 +1,4 @@
+pub mod Folders
+pub mod Rollout
+pub mod Loopback
+pub mod Export

@@ -1,6 +1,0 @@
-use Rattle.std.proofs.Common.{◌≡◌, ◌++◌, take}
-use Rattle.ddt_export.specs.Blocks.{more_locators}
-use Rattle.ddt_export.proofs.blocks.push_more.Given as goal
-
-abbrev pub invariant-loop-locator : goal.invariant-loop-locator
-invariant-loop-locator l = l.text.items ≡ l.fn.text.items ++ more_locators (take l.locator-index l.locators)

@@ -1,5 +1,0 @@
-use Rattle.std.proofs.Common.{◌≡◌, map, take}
-use Rattle.ddt_export.proofs.nodes.zones_of.Given as goal
-
-abbrev pub invariant-loop-authority : goal.invariant-loop-authority
-invariant-loop-authority l = l.zones.items ≡ map (λ a. a.prefix) (take l.authority-index l.authorities)

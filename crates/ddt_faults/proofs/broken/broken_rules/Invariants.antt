@@ -1,5 +1,0 @@
-use Rattle.ddt_faults.proofs.ListLemmas.{AreToldBelow}
-use Rattle.ddt_faults.proofs.broken.broken_rules.Given as goal
-
-abbrev pub invariant-loop-row : goal.invariant-loop-row
-invariant-loop-row l = AreToldBelow l.register l.row l.list.items

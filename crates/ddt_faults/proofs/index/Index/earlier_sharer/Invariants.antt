@@ -1,9 +1,0 @@
-use Rattle.std.proofs.Common.{take}
-use Rattle.ddt_register.specs.declared.register.Register.{Register}
-use Rattle.ddt_faults.specs.Told.{IsIndexOf}
-use Rattle.ddt_faults.proofs.ShareLemmas.{IsLeastSharer}
-use Rattle.ddt_faults.proofs.index.Index.earlier_sharer.Given as goal
-
-abbrev pub invariant-loop-locator : goal.invariant-loop-locator
-invariant-loop-locator l =
-    (r : Register) → IsIndexOf r l.self → IsLeastSharer r l.group.row (take l.locator-index l.locator-items) l.least

@@ -1,9 +1,0 @@
-use Rattle.std.proofs.Common.{◌≡◌, ◌++◌}
-use Rattle.ddt_folder.specs.Contents.{Contents}
-use Rattle.ddt_folder.specs.Wanted.{same_in, steps_for}
-use Rattle.ddt_folder.proofs.file_changes.compare.Given as goal
-
-abbrev pub invariant-loop-file : goal.invariant-loop-file
-invariant-loop-file g l = (s : Contents) → g.F.Folder.holds l.initial.folder s → g.F.Folder.holds l.folder s
-    × (l.draft.steps.items ≡ l.initial.draft.steps.items ++ steps_for s.files l.yielded)
-    × (l.draft.same.items ≡ l.initial.draft.same.items ++ same_in s.files l.yielded)

@@ -1,5 +1,0 @@
-use Rattle.ddt_folder.proofs.PublishLemmas.{plans_publish}
-use Rattle.ddt_folder.proofs.laws.a_plan_that_is_carried_out_publishes.Goals as goal
-
-pub returns : goal.returns
-returns c = plans_publish

@@ -1,5 +1,0 @@
-use Rattle.ddt_folder.proofs.MemoryLemmas.{config_put}
-use Rattle.ddt_folder.proofs.memory.Files.take.Goals as goal
-
-pub returns-in-Config : goal.returns-in-Config
-returns-in-Config c = config_put c.args.self.now c.remove.new.self _ _ _ c.in-Config.is c.remove.ensures.updates

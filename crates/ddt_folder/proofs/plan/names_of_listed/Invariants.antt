@@ -1,6 +1,0 @@
-use Rattle.std.proofs.Common.{◌≡◌, map, take}
-use Rattle.ddt_folder.specs.declared.file_name.FileName.TheVariants.{Config}
-use Rattle.ddt_folder.proofs.plan.names_of_listed.Given as goal
-
-abbrev pub invariant-loop-listed : goal.invariant-loop-listed
-invariant-loop-listed l = l.names.items ≡ map (λ listed. Config listed.name) (take l.listed-index l.configs)

@@ -1,6 +1,0 @@
-use Rattle.std.proofs.Common.{◌≡◌, ◌++◌, map, take}
-use Rattle.ddt_folder.specs.declared.step.Step.TheVariants.{Remove}
-use Rattle.ddt_folder.proofs.plan.push_removals.Given as goal
-
-abbrev pub invariant-loop-file : goal.invariant-loop-file
-invariant-loop-file l = l.steps.items ≡ l.fn.steps.items ++ map (λ file. Remove file.name) (take l.file-index l.gone)

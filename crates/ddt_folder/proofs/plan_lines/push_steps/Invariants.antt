@@ -1,7 +1,0 @@
-use Rattle.std.proofs.Common.{◌≡◌, ◌++◌, take}
-use Rattle.std.specs.List.{flat_map}
-use Rattle.ddt_folder.specs.Lines.{step_line}
-use Rattle.ddt_folder.proofs.plan_lines.push_steps.Given as goal
-
-abbrev pub invariant-loop-step : goal.invariant-loop-step
-invariant-loop-step l = l.text.items ≡ l.fn.text.items ++ flat_map step_line (take l.step-index l.steps)

@@ -1,8 +1,0 @@
-use Rattle.std.proofs.Common.{take}
-use Rattle.ddt_folder.specs.Contents.{Contents}
-use Rattle.ddt_folder.specs.Steps.{after}
-use Rattle.ddt_folder.proofs.publication.carry_out.Given as goal
-
-abbrev pub invariant-loop-step : goal.invariant-loop-step
-invariant-loop-step g l = (s : Contents) → g.F.Folder.holds l.initial.folder s
-    → g.F.Folder.holds l.folder (after (take l.step-index l.steps) s)

@@ -1,5 +1,0 @@
-use Rattle.std.proofs.Common.{◌≡◌, take, map}
-use Rattle.ddt_keys.proofs.assigning.copies.Given as goal
-
-abbrev pub invariant-loop-key : goal.invariant-loop-key
-invariant-loop-key l = l.copies.items ≡ map (λ k. k.key) (take l.key-index l.keys)

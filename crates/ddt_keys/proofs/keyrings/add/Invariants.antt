@@ -1,6 +1,0 @@
-use Rattle.std.proofs.Common.{◌≡◌, ◌++◌, take, drop, map}
-use Rattle.ddt_keys.specs.Keyrings.{given}
-use Rattle.ddt_keys.proofs.keyrings.add.Given as goal
-
-abbrev pub invariant-loop-at : goal.invariant-loop-at
-invariant-loop-at l = l.keyrings ≡ map (given l.key) (take l.at l.initial.keyrings) ++ drop l.at l.initial.keyrings

@@ -1,0 +1,2 @@
+pub mod RegistrationsLemmas
+pub mod NoncesLemmas

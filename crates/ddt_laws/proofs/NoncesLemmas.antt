@@ -1,0 +1,7 @@
+pub mod RequestLemmas
+pub mod LiftLemmas
+pub mod FairLemmas
+pub mod OweLemmas
+pub mod ShapeLemmas
+pub mod OnceLemmas
+pub mod RunLemmas

@@ -1,7 +1,0 @@
-mod AddressLemmas
-mod DistinctLemmas
-mod MovedLemmas
-mod AcceptedLemmas
-mod RowsLemmas
-mod AgainLemmas
-mod TableLemmas

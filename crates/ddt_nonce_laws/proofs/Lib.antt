@@ -1,7 +1,0 @@
-mod RequestLemmas
-mod LiftLemmas
-mod FairLemmas
-mod OweLemmas
-mod ShapeLemmas
-mod OnceLemmas
-mod RunLemmas

@@ -1,2 +1,0 @@
-mod SentLemmas
-mod TranslationLemmas

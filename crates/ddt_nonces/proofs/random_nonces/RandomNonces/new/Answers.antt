@@ -1,5 +1,0 @@
-use Rattle.ddt_nonces.proofs.TranslationLemmas.{first_translation}
-use Rattle.ddt_nonces.proofs.random_nonces.RandomNonces.new.Goals as goal
-
-pub invariant_of-result : goal.invariant_of-result
-invariant_of-result g c = first_translation c.new-told.result.calls (g.W.Wires.calls c.args.wires) c.new-asking.result.outstanding.sent.items c.new-told.ensures c.requires c.new-asking.ensures

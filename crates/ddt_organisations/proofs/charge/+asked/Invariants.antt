@@ -1,4 +1,0 @@
-use Rattle.ddt_organisations.proofs.charge.+asked.Given as goal
-
-abbrev pub decreases-asked : goal.decreases-asked
-decreases-asked l = l.hops

@@ -1,6 +1,0 @@
-use Rattle.std.proofs.Common.{◌≡◌, drop}
-use Rattle.ddt_registrar.specs.Registration.{all_joined}
-use Rattle.ddt_registrar.proofs.ranking.Ranking.join_all.Given as goal
-
-abbrev pub invariant-loop-one : goal.invariant-loop-one
-invariant-loop-one l = all_joined (drop l.one-index l.etrs) l.self ≡ all_joined l.etrs l.fn.self

@@ -1,6 +1,0 @@
-mod CompileLemmas
-mod AcceptLemmas
-mod ForceLemmas
-mod JudgedLemmas
-mod StepLemmas
-mod ReloadLemmas

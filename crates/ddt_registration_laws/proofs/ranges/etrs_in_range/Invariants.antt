@@ -1,6 +1,0 @@
-use Rattle.std.proofs.Common.{◌≡◌, true, take}
-use Rattle.ddt_registration_laws.specs.Ranges.{are_ranked}
-use Rattle.ddt_registration_laws.proofs.ranges.etrs_in_range.Given as goal
-
-abbrev pub invariant-loop-etr : goal.invariant-loop-etr
-invariant-loop-etr l = are_ranked (take l.etr-index l.etrs) ≡ true

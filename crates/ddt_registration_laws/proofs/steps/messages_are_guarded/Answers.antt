@@ -1,6 +1,0 @@
-use Rattle.ddt_registration_laws.proofs.JudgedLemmas.{taken_whole, unauthentic, replays}
-use Rattle.ddt_registration_laws.proofs.StepLemmas.{not_twice}
-use Rattle.ddt_registration_laws.proofs.steps.messages_are_guarded.Goals as goal
-
-pub returns : goal.returns
-returns c = record { whole = taken_whole; unauthentic = unauthentic; replays = replays; once = not_twice }

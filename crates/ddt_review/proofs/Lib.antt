@@ -1,0 +1,3 @@
+pub mod FaultsLemmas
+pub mod SheetsLemmas
+pub mod WarningsLemmas

@@ -1,0 +1,22 @@
+use Rattle.std.proofs.Common.{◌∙◌, sym, ap, refl}
+use Rattle.std.specs.List.{list_any}
+use Rattle.std.proofs.lemmas.Fn.{says_at}
+use Rattle.std.proofs.lemmas.List.{take_all}
+use Rattle.ddt_review.proofs.WarningsLemmas.FoundLemmas.{first_is, none_more}
+use Rattle.ddt_review.proofs.warnings.has_warnings.first_found.Goals as goal
+
+pub returns-then-is_some : goal.returns-then-is_some
+returns-then-is_some g c = λ has kind h.
+    first_is has kind c.args.locators.now c.loop-locator.locator-index _ c.find-found.result c.loop-locator-test.true
+    (h _ c.find-found.result (says_at g.F.Fn c.find-found.ensures refl)) (sym c.is_some.ensures ∙ c.if-is_some.true)
+
+pub loop-locator-preserved : goal.loop-locator-preserved
+loop-locator-preserved g c = λ has kind h.
+    none_more has kind c.args.locators.now c.loop-locator.locator-index _ c.find-found.result c.loop-locator-test.true
+    (h _ c.find-found.result (says_at g.F.Fn c.find-found.ensures refl)) (sym c.is_some.ensures ∙ c.if-is_some.false)
+    (c.loop-locator.invariant has kind h)
+
+pub returns : goal.returns
+returns g c = λ has kind h.
+    ap (list_any has) (sym (take_all c.loop-locator.locator-index c.args.locators.now c.loop-locator-test.false))
+    ∙ c.loop-locator.invariant has kind h

@@ -1,0 +1,10 @@
+pub mod Order
+pub mod Names
+pub mod UnreachableReason
+pub mod Warnings
+pub mod Findings
+pub mod Found
+pub mod Index
+pub mod Lost
+pub mod Missing
+pub mod Truncation

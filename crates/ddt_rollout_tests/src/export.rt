@@ -1,3 +1,0 @@
-//! The tests of ddt_export: worked groups, and what openoverlayrouter can't have of them.
-
-mod oor;

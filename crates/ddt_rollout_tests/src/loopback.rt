@@ -1,3 +1,0 @@
-//! The tests of ddt_loopback: worked registers, and what is read again of what is written.
-
-mod moved;

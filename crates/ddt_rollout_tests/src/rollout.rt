@@ -1,3 +1,0 @@
-//! The tests of ddt_rollout.
-
-mod steps;

@@ -1,5 +1,0 @@
-use Rattle.std.proofs.Common.{length}
-use Rattle.ddt_sheets.proofs.rule_reasons.+repeated.Given as goal
-
-abbrev pub decreases-repeated : goal.decreases-repeated
-decreases-repeated l = length l.locators.now

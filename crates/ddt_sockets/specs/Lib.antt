@@ -1,0 +1,5 @@
+pub mod Calls
+pub mod Addresses
+pub mod Turns
+pub mod laws
+pub mod Nonces

@@ -1,7 +1,0 @@
-use Rattle.ddt_wires.specs.laws.Turn.{IsServing}
-use Rattle.ddt_wires.proofs.turns.serve_turns.Given as goal
-
--- so many turns so far
-abbrev pub invariant-loop-turn : goal.invariant-loop-turn
-invariant-loop-turn g l =
-    IsServing (g.W.Wires.calls l.fn.wires) (g.W.Wires.calls l.wires) l.server l.at l._turn l.received l.replied

@@ -1,4 +1,0 @@
-pub mod Calls
-pub mod Addresses
-pub mod Turns
-pub mod laws

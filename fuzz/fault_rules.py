@@ -1,5 +1,5 @@
 #!/usr/bin/env python3
-"""Compares all faults that `ddtplan faults` lists with the ten rules in plain Python, over random registers.
+"""Compares all faults that `ddtplan faults` lists with the rules in plain Python, over random registers.
 
 usage: fault_rules.py COUNT [SEED]
 

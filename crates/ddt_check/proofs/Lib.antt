@@ -12,4 +12,3 @@ pub mod MarkLemmas
 pub mod FingerprintLemmas
 pub mod FrontLemmas
 pub mod WrongLemmas
-pub mod RuleLemmas

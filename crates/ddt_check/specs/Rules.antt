@@ -1,6 +1,6 @@
--- The ten rules of a register, each as a test of its lists at one row. The delegation tree of RFC 8111, section 4,
+-- The rules of a register, each as a test of its lists at one row. The delegation tree of RFC 8111, section 4,
 -- wants one root, one owner of each prefix and Map-Servers as its leaves; the numbers are limits of ours.
-use Rattle.std.specs.Prelude.{◌≡◌, ℕ, ◌<◌, Bool, true, false, ◌==◌, ◌&&◌, ◌||◌, not, nat_lt, if◌then◌else◌, List, length, is_some, Option, MatchOption}
+use Rattle.std.specs.Prelude.{◌≡◌, ℕ, ◌<◌, Bool, true, false, ◌==◌, ◌&&◌, ◌||◌, not, nat_lt, if◌then◌else◌, List, [], ◌∷◌, length, is_some, Option, MatchOption}
 use Rattle.std.specs.List.{list_any}
 use Rattle.std.specs.Option.{option_map_or}
 use Rattle.std.specs.Cmp.Lexicographic.{pointwise}
@@ -115,7 +115,12 @@ broken r rules.DuplicateGroup row = group_at r row (is_duplicate_group r)
 abbrev pub IsAccepted : Register → Type 0
 IsAccepted r = (rule : Rule) (row : ℕ) → broken r rule row ≡ false
 
--- the place of a rule in the order in which faults are named
+-- all rules, in the order in which faults are named
+abbrev pub all_rules : List Rule
+all_rules = rules.NoRoot ∷ rules.DuplicateZone ∷ rules.DuplicateSite ∷ rules.UnknownGroup ∷ rules.Role ∷ rules.Locators
+    ∷ rules.BelowMapServer ∷ rules.SiteOutside ∷ rules.TooManyEtrs ∷ rules.DuplicateGroup ∷ []
+
+-- the place of a rule in this order, from 1
 abbrev pub rule_number : Rule → ℕ
 rule_number rules.NoRoot = 1
 rule_number rules.DuplicateZone = 2

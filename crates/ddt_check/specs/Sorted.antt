@@ -6,7 +6,7 @@ use Rattle.ddt_register.specs.declared.group.Group.{Group}
 use Rattle.ddt_register.specs.declared.register.Register.{Register}
 use Rattle.ddt_check.specs.declared.fault.Rule.{Rule}
 use Rattle.ddt_check.specs.declared.fault.Rule.TheVariants as rules
-use Rattle.ddt_check.specs.declared.ten_rules.Found.{Found}
+use Rattle.ddt_check.specs.declared.first_fault.Found.{Found}
 use Rattle.ddt_check.specs.declared.sorted_on_stack.ZoneRows.{ZoneRows}
 use Rattle.ddt_check.specs.declared.sorted_on_stack.GroupRows.{GroupRows}
 use Rattle.ddt_check.specs.Rules.{IsLeastRow, broken, rule_number}
@@ -41,11 +41,7 @@ pub record AreGroupRows (r : Register) (rows : GroupRows) : Type 0 where
   pub role : IsLeastRow (broken r rules.Role) rows.role
   pub duplicate : IsLeastRow (broken r rules.DuplicateGroup) rows.duplicate
 
--- the same of all rules
-pub record AreLeast (r : Register) (found : Found) : Type 0 where
-  pub root : IsLeastRow (broken r rules.NoRoot) found.root
-  pub etrs : IsLeastRow (broken r rules.TooManyEtrs) found.etrs
-  pub locators : IsLeastRow (broken r rules.Locators) found.locators
-  pub duplicate_site : IsLeastRow (broken r rules.DuplicateSite) found.duplicate_site
+-- the same of what is found for several rules
+pub record AreFound (r : Register) (found : Found) : Type 0 where
   pub zones : AreZoneRows r found.zones
   pub groups : AreGroupRows r found.groups

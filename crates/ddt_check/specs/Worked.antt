@@ -1,6 +1,6 @@
 -- Worked registers, foremost the campus of examples/campus.csv, and what the definitions give of them.
-use Rattle.std.specs.Prelude.{◌≡◌, ℕ, List, [], ◌∷◌, map, take, true, false, codes, refl, Some, None}
-use Rattle.std.specs.List.{list_any}
+use Rattle.std.specs.Prelude.{◌≡◌, ℕ, Bool, ◌==◌, List, [], ◌∷◌, map, take, true, false, codes, refl, Some, None}
+use Rattle.std.specs.List.{list_any, list_all}
 use Rattle.ddt_path.specs.declared.locator.Locator.{Locator}
 use Rattle.ddt_path.specs.declared.locator.Locator.TheVariants.{V4, V6}
 use Rattle.ddt_path.specs.declared.form.Form.TheVariants.{Range, Block}
@@ -16,7 +16,7 @@ use Rattle.ddt_register.specs.declared.register.Register.{Register}
 use Rattle.ddt_register.specs.Ranges.{is_in_range}
 use Rattle.ddt_check.specs.declared.fault.Rule.{Rule}
 use Rattle.ddt_check.specs.declared.fault.Rule.TheVariants as rules
-use Rattle.ddt_check.specs.Rules.{broken}
+use Rattle.ddt_check.specs.Rules.{all_rules, broken, rule_number}
 use Rattle.ddt_check.specs.Assignment.{assignment}
 use Rattle.ddt_check.specs.Says.{says}
 
@@ -391,35 +391,46 @@ pub record NestedSitesAssign : Type 0 where
 abbrev pub nothing : Register
 nothing = record { zones = []; sites = []; groups = []; rows = refl; in_range = refl }
 
--- The rules A1 to A10, in the order in which a fault is named.
-abbrev pub all_rules : List Rule
-all_rules =
-    rules.NoRoot ∷ rules.DuplicateZone ∷ rules.DuplicateSite ∷ rules.UnknownGroup ∷ rules.Role ∷ rules.Locators
-    ∷ rules.BelowMapServer
-    ∷ rules.SiteOutside ∷ rules.TooManyEtrs ∷ rules.DuplicateGroup ∷ []
-
 -- The rows of the campus, 1 to 8, and row 0, which a fault names where no row is to blame.
 abbrev pub rows_to_eight : List ℕ
 rows_to_eight = 0 ∷ 1 ∷ 2 ∷ 3 ∷ 4 ∷ 5 ∷ 6 ∷ 7 ∷ 8 ∷ []
 
--- the rule that each breaks, in row 9, or in row 0, which has no item; the campus breaks none in any of its rows
+-- a register, a rule, and a row at which the rule is tested
+abbrev pub Tested : Type 0
+Tested = Register × Rule × ℕ
+
+abbrev pub breaks : Tested → Bool
+breaks t = broken t.0 t.1 t.2
+
+-- The rule that each breaks, in row 9, or in row 0, which has no item.
+abbrev pub worked_faults : List Tested
+worked_faults =
+    (nothing, rules.NoRoot, 0)
+    ∷ (second_root, rules.NoRoot, 9)
+    ∷ (zone_in_nine 0x0a000000 8 numbers.duplicate_zone, rules.DuplicateZone, 9)
+    ∷ (site_in_nine 0x0a010200 24 [] numbers.duplicate_site, rules.DuplicateSite, 9)
+    ∷ (zone_of_west, rules.UnknownGroup, 9)
+    ∷ (ms_zone_of_ten, rules.Role, 9)
+    ∷ (group_in_nine (codes "west") (at_root ∷ []) numbers.taken_locator, rules.Locators, 9)
+    ∷ (group_in_nine (codes "west") [] numbers.no_locator, rules.Locators, 9)
+    ∷ (zone_in_nine 0x0a010700 24 numbers.below_map_server, rules.BelowMapServer, 9)
+    ∷ (site_in_nine 0x0a020000 24 [] numbers.site_outside, rules.SiteOutside, 9)
+    ∷ (site_in_nine 0x0a010500 24 nine_locators numbers.too_many_etrs, rules.TooManyEtrs, 9)
+    ∷ (group_in_nine east (V4 0x7f000109 ∷ []) numbers.duplicate_group, rules.DuplicateGroup, 9)
+    ∷ []
+
+-- The rule that each just doesn't break in row 9.
+abbrev pub worked_limits : List Tested
+worked_limits =
+    (site_in_nine 0x0a010280 25 [] numbers.site_inside_a_site, rules.DuplicateSite, 9)
+    ∷ (site_in_nine 0x0a010500 24 (take 8 nine_locators) numbers.eight_etrs, rules.TooManyEtrs, 9)
+    ∷ []
+
+-- Each rule is broken by a worked register, in row 9 or 0. The campus breaks none in any of its rows.
 pub record BreaksInNine : Type 0 where
-  pub no_root : broken nothing rules.NoRoot 0 ≡ true
-  pub two_roots : broken second_root rules.NoRoot 9 ≡ true
-  pub duplicate_zone : broken (zone_in_nine 0x0a000000 8 numbers.duplicate_zone) rules.DuplicateZone 9 ≡ true
-  pub duplicate_site : broken (site_in_nine 0x0a010200 24 [] numbers.duplicate_site) rules.DuplicateSite 9 ≡ true
-  pub site_inside_a_site : broken (site_in_nine 0x0a010280 25 [] numbers.site_inside_a_site) rules.DuplicateSite 9
-      ≡ false
-  pub unknown_group : broken zone_of_west rules.UnknownGroup 9 ≡ true
-  pub role : broken ms_zone_of_ten rules.Role 9 ≡ true
-  pub taken_locator : broken (group_in_nine (codes "west") (at_root ∷ []) numbers.taken_locator) rules.Locators 9 ≡ true
-  pub no_locator : broken (group_in_nine (codes "west") [] numbers.no_locator) rules.Locators 9 ≡ true
-  pub below_map_server : broken (zone_in_nine 0x0a010700 24 numbers.below_map_server) rules.BelowMapServer 9 ≡ true
-  pub site_outside : broken (site_in_nine 0x0a020000 24 [] numbers.site_outside) rules.SiteOutside 9 ≡ true
-  pub too_many_etrs : broken (site_in_nine 0x0a010500 24 nine_locators numbers.too_many_etrs) rules.TooManyEtrs 9 ≡ true
-  pub eight_etrs : broken (site_in_nine 0x0a010500 24 (take 8 nine_locators) numbers.eight_etrs) rules.TooManyEtrs 9
-      ≡ false
-  pub duplicate_group : broken (group_in_nine east (V4 0x7f000109 ∷ []) numbers.duplicate_group) rules.DuplicateGroup 9
-      ≡ true
+  pub each_breaks : list_all breaks worked_faults ≡ true
+  pub each_rule : list_all (λ rule. list_any (λ (t : Tested). rule_number t.1 == rule_number rule) worked_faults)
+      all_rules ≡ true
+  pub none_breaks : list_any breaks worked_limits ≡ false
   pub campus_is_whole : list_any (λ rule. list_any (broken campus rule) rows_to_eight) all_rules ≡ false
   pub campus_is_in_range : is_in_range campus.zones campus.sites campus.groups ≡ true

@@ -9,6 +9,7 @@ pub mod Next
 pub mod Order
 pub mod Outside
 pub mod Root
+pub mod RuleOrder
 pub mod Served
 pub mod ServersByName
 pub mod Site

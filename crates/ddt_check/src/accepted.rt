@@ -1,4 +1,4 @@
-//! A register that keeps all ten rules.
+//! A register that keeps all rules.
 
 ghost use Rattle.std.specs.Prelude.{◌≡◌, [], length};
 ghost use Rattle.std.specs.Option.{option_copied};

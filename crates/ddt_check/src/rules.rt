@@ -1,4 +1,4 @@
-//! The ten rules, each as the least row that breaks it, over entries that are sorted by prefix or name, then by row.
+//! The rules, each as the least row that breaks it, over entries that are sorted by prefix or name, then by row.
 //! The duplicates of an item are then beside it, and a name, a locator or a zone is found by binary search.
 
 ghost use Rattle.std.specs.Prelude.{◌≡◌, Bool, List, min, Some, IsPermutation, if◌then◌else◌};

@@ -1,4 +1,4 @@
-//! The rules TooManyEtrs and SiteOutside. The number of ETRs is checked in the order of the rows. Whether a site is
+//! The rules TooManyEtrs and SiteOutside. The number of ETRs is a test of each site alone. Whether a site is
 //! outside is read off zones that are sorted by their prefixes, then by their rows.
 
 ghost use Rattle.std.specs.Prelude.{◌≡◌, ◌==◌, ◌&&◌, ◌||◌, nat_lt, IsPermutation, map};
@@ -6,7 +6,6 @@ ghost use Rattle.std.specs.Ordering.{nat_cmp, is_le};
 ghost use Rattle.std.specs.Cmp.Lexicographic.{slice_cmp};
 ghost use Rattle.ddt_path.specs.Covers.{covers};
 ghost use Rattle.ddt_register.specs.declared.register.Register.{Register as ARegister};
-ghost use Rattle.ddt_register.specs.Rows.{first_row as first_row_of};
 ghost use Rattle.ddt_check.specs.Rules.{IsLeastRow, broken};
 ghost use Rattle.ddt_check.specs.Rules.{is_outside as is_outside_of, has_too_many_etrs as has_too_many};
 ghost use Rattle.ddt_check.specs.Zones.{is_ms as is_ms_of};
@@ -17,7 +16,7 @@ use crate::entries::SortEntry;
 use crate::fault::Rule;
 use crate::rules::least_row;
 use ddt_path::{MOST_LOCATORS, Role};
-use ddt_register::{Register, Site, Zone, first_row};
+use ddt_register::{Register, Site, Zone};
 
 fn has_too_many_etrs(s: &Site) -> bool
     ensures { result ≡ has_too_many s.now }
@@ -27,9 +26,9 @@ fn has_too_many_etrs(s: &Site) -> bool
 
 /// The least row of a site with more than 8 ETRs.
 pub fn too_many_etrs(register: &Register) -> Option<u32>
-    ensures { result ≡ first_row_of (λ s. s.row) has_too_many register.now.sites }
+    ensures { IsLeastRow (broken register.now Rule.TooManyEtrs) result }
 {
-    first_row(register.sites.as_slice(), |s| has_too_many_etrs(s))
+    least_row(register.sites.as_slice(), |s| has_too_many_etrs(s))
 }
 
 /// Whether a zone is of Map-Servers and covers a site.

@@ -13,7 +13,7 @@ ghost use Rattle.std.specs.Option.{option_map, option_map_or, option_copied};
 ghost use Rattle.ddt_path.specs.Covers.{covers, is_strictly_below};
 ghost use Rattle.ddt_register.specs.declared.register.Register.{Register as ARegister};
 ghost use Rattle.ddt_register.specs.Rows.{first_row as first_row_of};
-ghost use Rattle.ddt_check.specs.Rules.{earlier_zone};
+ghost use Rattle.ddt_check.specs.Rules.{IsLeastRow, broken, earlier_zone};
 ghost use Rattle.ddt_check.specs.Rules.{is_root as is_root_zone, is_wrong_root as is_wrong_root_of};
 ghost use Rattle.ddt_check.specs.Order.{AreZonesInOrder, AreGroupsInOrder};
 ghost use Rattle.ddt_check.specs.Zones.{is_ms as is_ms_zone, is_same_role, group_named as group_of_name};
@@ -33,7 +33,7 @@ fn is_root(z: &Zone) -> bool
 }
 
 /// Whether a zone covers everything.
-pub fn has_root(register: &Register) -> bool
+fn has_root(register: &Register) -> bool
     ensures { result ≡ list_any is_root_zone register.now.zones }
 {
     register.zones.as_slice().iter().any(|z| is_root(z))
@@ -53,10 +53,21 @@ fn is_wrong_root(register: &Register, z: &Zone) -> bool
 }
 
 /// The least row of a root of Map-Servers, or of a root after the first. It reads at most two roots.
-pub fn wrong_root(register: &Register) -> Option<u32>
+fn wrong_root(register: &Register) -> Option<u32>
     ensures { result ≡ first_row_of (λ z. z.row) (is_wrong_root_of register.now) register.now.zones }
 {
     first_row(register.zones.as_slice(), |z| is_wrong_root(register, z))
+}
+
+/// The least row that breaks the rule NoRoot: row 0 if there is no root.
+pub fn no_root(register: &Register) -> Option<u32>
+    ensures { IsLeastRow (broken register.now Rule.NoRoot) result }
+{
+    if has_root(register) {
+        wrong_root(register)
+    } else {
+        Some(0)
+    }
 }
 
 /// Whether a zone is strictly inside the zone `top`.

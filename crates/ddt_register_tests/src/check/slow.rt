@@ -1,4 +1,4 @@
-//! The ten rules by plain bodies that compare pairs of items: the reference for the fast ones.
+//! The rules by plain bodies that compare pairs of items: the reference for the fast ones.
 
 ghost use Rattle.std.specs.Prelude.{◌≡◌};
 ghost use Rattle.std.specs.List.{list_any};

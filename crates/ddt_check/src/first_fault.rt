@@ -1,9 +1,8 @@
-//! The check of a register against all ten rules.
+//! The check of a register against all rules, in the order of their numbers.
 
 ghost use Rattle.std.specs.Prelude.{◌≡◌, MatchOption, IfOk, IfErr};
-ghost use Rattle.ddt_register.specs.declared.register.Register.{Register as ARegister};
 ghost use Rattle.ddt_check.specs.Rules.{IsAccepted, IsLeastFault, IsLeastRow, broken};
-ghost use Rattle.ddt_check.specs.Sorted.{AreEarlierKept, AreLeast};
+ghost use Rattle.ddt_check.specs.Sorted.{AreEarlierKept, AreFound};
 
 use crate::accepted::Accepted;
 use crate::fault::{Fault, Rule};
@@ -14,7 +13,7 @@ use ddt_path::Listed;
 use ddt_register::Register;
 use std::alloc::Global;
 
-/// Accepts a register that keeps all ten rules. Else returns the register, with the broken rule of least number and the
+/// Accepts a register that keeps all rules. Else returns the register, with the broken rule of least number and the
 /// least row that breaks it. All memory is freed before it returns; without free memory the check takes longer, and
 /// has the same result.
 pub fn check(register: Register) -> Result<Accepted, (Register, Fault)>
@@ -48,77 +47,45 @@ fn with_allocator(register: Register) -> (Register, Global)
     (register, alloc)
 }
 
-/// The least row that breaks each rule, if any does. The row of a site outside is the least one only if the rules
+/// What the passes find that several rules share. The row of a site outside is the least one only if the rules
 /// DuplicateZone and BelowMapServer are kept.
 #[derive(Clone, Copy)]
 struct Found {
-    root: Option<u32>,
-    etrs: Option<u32>,
-    locators: Option<u32>,
-    duplicate_site: Option<u32>,
     zones: ZoneRows,
     groups: GroupRows,
 }
 
-/// The broken rule of least number, with the least row that breaks it.
+/// The first fault, by the rules in the order of their numbers: the least row that breaks the first broken one.
 fn find_fault(alloc: Global, register: &Register) -> Option<Fault>
     ensures { MatchOption result (IsAccepted register.now) (λ f. IsLeastFault register.now f.rule f.row) }
 {
     let found = Found {
-        root: first_root_fault(register),
-        etrs: first_etrs_fault(register),
-        locators: wrong_locators(alloc, register.groups.as_slice()),
-        duplicate_site: duplicate_site(register),
         zones: zone_rows(register),
         groups: group_rows(register),
     };
-    first_fault(&found)
-}
-
-/// The first fault, by the rules in the order of their numbers.
-fn first_fault(found: &Found) -> Option<Fault>
-    ensures { (r : ARegister) → AreLeast r found.now
-        → MatchOption result (IsAccepted r) (λ f. IsLeastFault r f.rule f.row) }
-{
     for rule in Rule::ALL {
-        if let Some(row) = first_row(found, rule) {
+        if let Some(row) = first_row(alloc, register, found, rule) {
             return Some(Fault { rule, row });
         }
     }
     None
 }
 
-/// The least row that breaks a rule, where no rule before it is broken.
-fn first_row(found: &Found, rule: Rule) -> Option<u32>
-    ensures { (r : ARegister) → AreLeast r found.now → AreEarlierKept r rule → IsLeastRow (broken r rule) result }
+/// The least row that breaks a rule, if no rule before it is broken.
+fn first_row(alloc: Global, register: &Register, found: Found, rule: Rule) -> Option<u32>
+    ensures { AreFound register.now found → AreEarlierKept register.now rule
+        → IsLeastRow (broken register.now rule) result }
 {
     match rule {
-        Rule::NoRoot => found.root,
+        Rule::NoRoot => zones::no_root(register),
         Rule::DuplicateZone => found.zones.duplicate,
-        Rule::DuplicateSite => found.duplicate_site,
+        Rule::DuplicateSite => duplicate_site(register),
         Rule::UnknownGroup => found.groups.unknown,
         Rule::Role => found.groups.role,
-        Rule::Locators => found.locators,
+        Rule::Locators => wrong_locators(alloc, register.groups.as_slice()),
         Rule::BelowMapServer => found.zones.below,
         Rule::SiteOutside => found.zones.outside,
-        Rule::TooManyEtrs => found.etrs,
+        Rule::TooManyEtrs => sites::too_many_etrs(register),
         Rule::DuplicateGroup => found.groups.duplicate,
     }
-}
-
-/// The least row that breaks the rule on the root: row 0 where there is none.
-fn first_root_fault(register: &Register) -> Option<u32>
-    ensures { IsLeastRow (broken register.now Rule.NoRoot) result }
-{
-    if zones::has_root(register) {
-        zones::wrong_root(register)
-    } else {
-        Some(0)
-    }
-}
-
-fn first_etrs_fault(register: &Register) -> Option<u32>
-    ensures { IsLeastRow (broken register.now Rule.TooManyEtrs) result }
-{
-    sites::too_many_etrs(register)
 }

@@ -4,7 +4,7 @@ use Rattle.ddt_register.specs.laws.Rising.{zones_rise}
 use Rattle.ddt_register.specs.laws.RowOrder.{rising_from_rise}
 use Rattle.ddt_check.specs.Rules.{is_wrong_root}
 use Rattle.ddt_check.proofs.LeastLemmas.{least_item}
-use Rattle.ddt_check.proofs.ten_rules.first_root_fault.Goals as goal
+use Rattle.ddt_check.proofs.rules.zones.no_root.Goals as goal
 
 pub returns-then-has_root : goal.returns-then-has_root
 returns-then-has_root c =

@@ -1,5 +1,5 @@
 -- The list of all that is told, row by row.
-use Rattle.std.proofs.Common.{◌≡◌, ◌⊎◌, ℕ, ◌+◌, ◌-◌, ◌<◌, Bool, true, false, cond, ◌&&◌, ◌||◌, ◌==◌, List, [], ◌∷◌, ◌++◌, take, get_or, append_assoc, Option, Some, None, Ordering, Less, refl, sym, ap, ap₂, subst, ◌∙◌, arith, inl, inr}
+use Rattle.std.proofs.Common.{◌≡◌, ◌⊎◌, ℕ, ◌+◌, ◌<◌, Bool, true, false, cond, ◌&&◌, ◌||◌, ◌==◌, List, [], ◌∷◌, ◌++◌, length, take, get_or, append_assoc, Option, Some, None, Ordering, Less, refl, sym, ap, ap₂, subst, ◌∙◌, arith, inl, inr}
 use Rattle.std.specs.Prelude.{nat_lt}
 use Rattle.std.specs.List.{list_any, filter_map, cons_option, AllByRecursion}
 use Rattle.std.specs.List.Sorted.{IsStrictlySortedBy}
@@ -16,45 +16,14 @@ use Rattle.ddt_register.specs.declared.zone.Zone.{Zone}
 use Rattle.ddt_register.specs.declared.site.Site.{Site}
 use Rattle.ddt_register.specs.declared.group.Group.{Group}
 use Rattle.ddt_register.specs.declared.register.Register.{Register}
-use Rattle.ddt_register.specs.laws.RowOrder.{Rising, rising_from_rise}
+use Rattle.ddt_register.specs.laws.RowOrder.{Rising}
 use Rattle.ddt_check.specs.declared.fault.Rule.{Rule}
-use Rattle.ddt_check.specs.declared.fault.Rule.TheVariants as variants
-use Rattle.ddt_check.specs.Rules.{broken, rule_number, item_at, zone_at, site_at, group_at, is_root, is_wrong_root, is_duplicate_zone, is_duplicate_site, is_of_unknown_group, is_of_other_role, has_wrong_locators, is_below_map_server, is_outside, has_too_many_etrs, is_duplicate_group}
+use Rattle.ddt_check.specs.declared.fault.Rule.TheVariants.{NoRoot}
+use Rattle.ddt_check.specs.laws.RuleOrder.{same_rule, each_rule, rules_rise}
+use Rattle.ddt_check.specs.Rules.{all_rules, broken, rule_number, item_at, zone_at, site_at, group_at, is_root, is_wrong_root}
 use Rattle.ddt_review.specs.declared.faults.broken.Broken.{Broken}
 use Rattle.ddt_review.specs.Faults.Broken.{other_row, is_told, place_cmp, AreBroken}
-use Rattle.ddt_review.specs.Faults.Told.{fault_if, told, all_rules}
-
--- ---- the rules and their numbers
-
-at_number : (rule : Rule) → get_or all_rules (rule_number rule - 1) variants.NoRoot ≡ rule
-at_number variants.NoRoot = refl
-at_number variants.DuplicateZone = refl
-at_number variants.DuplicateSite = refl
-at_number variants.UnknownGroup = refl
-at_number variants.Role = refl
-at_number variants.Locators = refl
-at_number variants.BelowMapServer = refl
-at_number variants.SiteOutside = refl
-at_number variants.TooManyEtrs = refl
-at_number variants.DuplicateGroup = refl
-
-same_rule : (a b : Rule) → rule_number a ≡ rule_number b → a ≡ b
-same_rule a b e = sym (at_number a) ∙ ap (λ (k : ℕ). get_or all_rules (k - 1) variants.NoRoot) e ∙ at_number b
-
-each_rule : (rule : Rule) → IsIn rule all_rules
-each_rule variants.NoRoot = inl refl
-each_rule variants.DuplicateZone = inr (inl refl)
-each_rule variants.DuplicateSite = inr (inr (inl refl))
-each_rule variants.UnknownGroup = inr (inr (inr (inl refl)))
-each_rule variants.Role = inr (inr (inr (inr (inl refl))))
-each_rule variants.Locators = inr (inr (inr (inr (inr (inl refl)))))
-each_rule variants.BelowMapServer = inr (inr (inr (inr (inr (inr (inl refl))))))
-each_rule variants.SiteOutside = inr (inr (inr (inr (inr (inr (inr (inl refl)))))))
-each_rule variants.TooManyEtrs = inr (inr (inr (inr (inr (inr (inr (inr (inl refl))))))))
-each_rule variants.DuplicateGroup = inr (inr (inr (inr (inr (inr (inr (inr (inr (inl refl)))))))))
-
-rules_rise : Rising rule_number all_rules
-rules_rise = rising_from_rise rule_number all_rules 0 refl
+use Rattle.ddt_review.specs.Faults.Told.{fault_if, told}
 
 -- what holds of each member, by recursion
 each_by_recursion : {A : Type 0} (P : A → Type 0) (xs : List A) → ((x : A) → IsIn x xs → P x) → AllByRecursion P xs
@@ -168,7 +137,7 @@ module _ (r : Register) (row : ℕ) where
   told_sorted (ρ ∷ ρs) up = sorted_case ρ ρs (told r row ρ) refl up.0 (told_sorted ρs up.1)
 
   -- one more rule
-  pub told_push : (k : ℕ) (d : Rule) (first old new : List Broken) (fault : Option Broken) → k < 10
+  pub told_push : (k : ℕ) (d : Rule) (first old new : List Broken) (fault : Option Broken) → k < length all_rules
       → fault ≡ told r row (get_or all_rules k d) → old ≡ first ++ told_in (take k all_rules)
       → new ≡ old ++ cons_option fault []
       → new ≡ first ++ told_in (take (k + 1) all_rules)
@@ -270,16 +239,8 @@ module _ (r : Register) (end : ℕ) (some : 0 < end) (zones : (z : Zone) → IsI
   root_low n false e = let zero : n ≡ 0 = eqb-true n 0 e in omega arith
 
   pub broken_low : (ρ : Rule) (n : ℕ) → broken r ρ n ≡ true → n < end
-  broken_low variants.NoRoot n e = root_low n (list_any is_root r.zones) e
-  broken_low variants.DuplicateZone n e = zone_low (is_duplicate_zone r) n e
-  broken_low variants.DuplicateSite n e = site_low (is_duplicate_site r) n e
-  broken_low variants.UnknownGroup n e = zone_low (is_of_unknown_group r) n e
-  broken_low variants.Role n e = zone_low (is_of_other_role r) n e
-  broken_low variants.Locators n e = group_low (has_wrong_locators r) n e
-  broken_low variants.BelowMapServer n e = zone_low (is_below_map_server r) n e
-  broken_low variants.SiteOutside n e = site_low (is_outside r) n e
-  broken_low variants.TooManyEtrs n e = site_low has_too_many_etrs n e
-  broken_low variants.DuplicateGroup n e = group_low (is_duplicate_group r) n e
+  broken_low NoRoot n e = root_low n (list_any is_root r.zones) e
+  broken_low ρ n e = search (zone_low, site_low, group_low)
 
 low_case : (n end : ℕ) (b : Bool) → (b ≡ true → n < end) → (nat_lt n end && b) ≡ b
 low_case n end true h = ap (λ (t : Bool). t && true) (lt-ltb n end (h refl))

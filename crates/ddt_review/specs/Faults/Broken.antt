@@ -18,15 +18,15 @@ use Rattle.ddt_check.specs.Zones.{is_ms, zone_of, group_named}
 use Rattle.ddt_check.specs.Rules.{is_root, share, broken, rule_number}
 use Rattle.ddt_review.specs.declared.faults.broken.Broken.{Broken}
 
--- The zone that is in a row: A1, A2, A4, A5 and A7 are tested at it.
+-- The zone that is in a row: the rules on zones are tested at it.
 abbrev pub zone_in : Register → ℕ → Option Zone
 zone_in r row = find (λ z. z.row == row) r.zones
 
--- The site that is in a row: A3, A8 and A9 are tested at it.
+-- The site that is in a row: the rules on sites are tested at it.
 abbrev pub site_in : Register → ℕ → Option Site
 site_in r row = find (λ s. s.row == row) r.sites
 
--- The group that is in a row: A6 and A10 are tested at it.
+-- The group that is in a row: the rules on groups are tested at it.
 abbrev pub group_in : Register → ℕ → Option Group
 group_in r row = find (λ g. g.row == row) r.groups
 
@@ -55,19 +55,19 @@ abbrev pub zone_above : Register → List ℕ → Option Zone
 zone_above r p = longest_match (λ z. z.prefix) (filter (λ z. is_ms z.kind && is_strictly_below p z.prefix) r.zones) p
 
 -- The other row of a fault, by its rule and its row: the first root, the first zone, site or group of the same prefix
--- or name, the zone's group, an earlier group of the same locator, the zone above, or the site's zone.
+-- or name, the zone's group, an earlier group of the same locator, the zone above, or the site's zone. A fault of any
+-- other rule is of one row alone.
 abbrev pub other_row : Register → Rule → ℕ → Option ℕ
 other_row r rules.NoRoot row = earlier_root r row
 other_row r rules.DuplicateZone row = option_and_then (λ z. first_zone r z.prefix) (zone_in r row)
 other_row r rules.DuplicateSite row = option_and_then (λ s. first_site r s.prefix) (site_in r row)
-other_row r rules.UnknownGroup row = None
 other_row r rules.Role row = option_and_then (λ z. group_row r z.group) (zone_in r row)
 other_row r rules.Locators row = option_and_then (λ g. earlier_sharer r g) (group_in r row)
 other_row r rules.BelowMapServer row =
     option_and_then (λ z. option_map (λ y. y.row) (zone_above r z.prefix)) (zone_in r row)
 other_row r rules.SiteOutside row = option_and_then (λ s. option_map (λ z. z.row) (zone_of r s.prefix)) (site_in r row)
-other_row r rules.TooManyEtrs row = None
 other_row r rules.DuplicateGroup row = option_and_then (λ g. group_row r g.name) (group_in r row)
+other_row r _ row = None
 
 -- some entry of a list is of this rule and this row
 abbrev pub is_told : List Broken → Rule → ℕ → Bool

@@ -1,5 +1,5 @@
 -- What is looked up to find the broken rules of one row, and its faults.
-use Rattle.std.specs.Prelude.{◌≡◌, ℕ, Bool, List, [], ◌∷◌, find, Option, None, Some, if◌then◌else◌}
+use Rattle.std.specs.Prelude.{◌≡◌, ℕ, Bool, List, find, Option, None, Some, if◌then◌else◌}
 use Rattle.std.specs.declared.cmp.Ordering.{Ordering}
 use Rattle.std.specs.List.{filter}
 use Rattle.std.specs.Option.{option_map, option_copied}
@@ -16,7 +16,6 @@ use Rattle.ddt_register.specs.declared.group.Group.{Group}
 use Rattle.ddt_register.specs.declared.register.Register.{Register}
 use Rattle.ddt_register.specs.Rows.{first_row}
 use Rattle.ddt_check.specs.declared.fault.Rule.{Rule}
-use Rattle.ddt_check.specs.declared.fault.Rule.TheVariants.{NoRoot, DuplicateZone, DuplicateSite, UnknownGroup, Role, Locators, BelowMapServer, SiteOutside, TooManyEtrs, DuplicateGroup}
 use Rattle.ddt_check.specs.Zones.{is_ms, group_named}
 use Rattle.ddt_check.specs.Rules.{is_root, broken}
 use Rattle.ddt_trie.specs.PrefixMap.{path_cmp}
@@ -68,8 +67,3 @@ fault_if breaks row rule other = if breaks then Some (record { row = row; rule =
 -- the fault of a rule at a row
 abbrev pub told : Register → ℕ → Rule → Option Broken
 told r row rule = fault_if (broken r rule row) row rule (other_row r rule row)
-
--- the rules in the order of their numbers
-abbrev pub all_rules : List Rule
-all_rules = NoRoot ∷ DuplicateZone ∷ DuplicateSite ∷ UnknownGroup ∷ Role ∷ Locators ∷ BelowMapServer ∷ SiteOutside
-    ∷ TooManyEtrs ∷ DuplicateGroup ∷ []

@@ -3,8 +3,9 @@
 ghost use Rattle.std.specs.Prelude.{◌≡◌, ◌++◌, IfOk, OnOk};
 ghost use Rattle.std.specs.List.{filter_map};
 ghost use Rattle.ddt_register.specs.declared.register.Register.{Register as ARegister};
+ghost use Rattle.ddt_check.specs.Rules.{all_rules};
 ghost use Rattle.ddt_review.specs.Faults.Broken.{AreBroken};
-ghost use Rattle.ddt_review.specs.Faults.Told.{IsIndexOf, IsInRow, told, all_rules};
+ghost use Rattle.ddt_review.specs.Faults.Told.{IsIndexOf, IsInRow, told};
 
 use crate::faults::index::Index;
 use crate::faults::items_in_row::{ItemsInRow, end_of_rows};

@@ -1,7 +1,8 @@
 use Rattle.std.proofs.Common.{◌≡◌, ◌++◌, take}
 use Rattle.std.specs.List.{filter_map}
 use Rattle.ddt_register.specs.declared.register.Register.{Register}
-use Rattle.ddt_review.specs.Faults.Told.{IsIndexOf, IsInRow, told, all_rules}
+use Rattle.ddt_check.specs.Rules.{all_rules}
+use Rattle.ddt_review.specs.Faults.Told.{IsIndexOf, IsInRow, told}
 use Rattle.ddt_review.proofs.faults.broken.push_faults.Given as goal
 
 abbrev pub invariant-loop-rule : goal.invariant-loop-rule

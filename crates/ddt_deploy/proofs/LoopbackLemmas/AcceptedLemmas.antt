@@ -116,9 +116,6 @@ module _ (r s : Register) (zones : s.zones ≡ r.zones) (sites : s.sites ≡ r.s
       (λ h j. earlier_unshared h g j k (nat_lt h.row g.row) refl))
 
   pub still_accepted : IsAccepted s
-  still_accepted rules.NoRoot row = rw zones (accepted rules.NoRoot row)
-  still_accepted rules.DuplicateZone row = rw zones (accepted rules.DuplicateZone row)
-  still_accepted rules.DuplicateSite row = rw sites (accepted rules.DuplicateSite row)
   still_accepted rules.UnknownGroup row =
       none_of (λ (z : Zone). z.row == row && is_of_unknown_group s z) s.zones (λ z k. fails_with (z.row == row)
       (is_of_unknown_group s z)
@@ -132,12 +129,11 @@ module _ (r s : Register) (zones : s.zones ≡ r.zones) (sites : s.sites ≡ r.s
   still_accepted rules.Locators row =
       none_of (λ (g : Group). g.row == row && has_wrong_locators s g) s.groups
       (λ g k. fails_with (g.row == row) (has_wrong_locators s g) (own_locators g k))
-  still_accepted rules.BelowMapServer row = rw zones (accepted rules.BelowMapServer row)
-  still_accepted rules.SiteOutside row = rw (sites, zones) (accepted rules.SiteOutside row)
-  still_accepted rules.TooManyEtrs row = rw sites (accepted rules.TooManyEtrs row)
   still_accepted rules.DuplicateGroup row =
       none_of (λ (g : Group). g.row == row && is_duplicate_group s g) s.groups
       (λ g k. fails_with (g.row == row) (is_duplicate_group s g) (own_name g k))
+  -- the other rules look at no group
+  still_accepted other row = simp (sites, zones) (accepted other row)
 
 -- in an accepted register no locator stands twice
 pub all_distinct : (r : Register) → IsAccepted r → are_distinct (locators_in r.groups) ≡ true

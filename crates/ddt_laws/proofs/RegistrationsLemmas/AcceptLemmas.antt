@@ -14,7 +14,7 @@ use Rattle.ddt_register.specs.declared.zone.Zone.{Zone}
 use Rattle.ddt_register.specs.declared.site.Site.{Site}
 use Rattle.ddt_check.specs.declared.fault.Rule.TheVariants as rules
 use Rattle.ddt_check.specs.Zones.{is_ms}
-use Rattle.ddt_check.specs.Rules.{broken, item_at, is_duplicate, has_too_many_etrs}
+use Rattle.ddt_check.specs.Rules.{item_at, is_duplicate, has_too_many_etrs}
 use Rattle.ddt_laws.specs.Registrations.RegisterLemmas.{row_with}
 use Rattle.ddt_laws.specs.Registrations.Statements.{OtherEtrsAreAccepted}
 
@@ -66,25 +66,12 @@ module _ (p : List ℕ) (e : List Locator) where
       (λ s. too_many_case (s.row == row) (is_same_path s.prefix p) e s.etrs few) xs
 
 pub accepted : OtherEtrsAreAccepted
-accepted p e r s h few ok rules.NoRoot row =
-    let same : broken s rules.NoRoot row ≡ broken r rules.NoRoot row = rw h.zones refl in same ∙ ok rules.NoRoot row
-accepted p e r s h few ok rules.DuplicateZone row =
-    let same : broken s rules.DuplicateZone row ≡ broken r rules.DuplicateZone row = rw h.zones refl in same ∙ ok rules.DuplicateZone row
 accepted p e r s h few ok rules.DuplicateSite row =
     ap (λ (xs : List Site). duplicate_in xs row) h.sites ∙ duplicates_kept p e r.sites row ∙ ok rules.DuplicateSite row
-accepted p e r s h few ok rules.UnknownGroup row =
-    let same : broken s rules.UnknownGroup row ≡ broken r rules.UnknownGroup row = rw (h.zones, h.groups) refl in
-    same ∙ ok rules.UnknownGroup row
-accepted p e r s h few ok rules.Role row =
-    let same : broken s rules.Role row ≡ broken r rules.Role row = rw (h.zones, h.groups) refl in same ∙ ok rules.Role row
-accepted p e r s h few ok rules.Locators row =
-    let same : broken s rules.Locators row ≡ broken r rules.Locators row = rw h.groups refl in same ∙ ok rules.Locators row
-accepted p e r s h few ok rules.BelowMapServer row =
-    let same : broken s rules.BelowMapServer row ≡ broken r rules.BelowMapServer row = rw h.zones refl in same ∙ ok rules.BelowMapServer row
 accepted p e r s h few ok rules.SiteOutside row =
     ap (λ (zs : List Zone). outside_in zs s.sites row) h.zones ∙ ap (λ (xs : List Site). outside_in r.zones xs row) h.sites
     ∙ outside_kept p e r.zones r.sites row ∙ ok rules.SiteOutside row
 accepted p e r s h few ok rules.TooManyEtrs row =
     ap (λ (xs : List Site). item_at (λ s. s.row) has_too_many_etrs xs row) h.sites ∙ few_kept p e few r.sites row (ok rules.TooManyEtrs row)
-accepted p e r s h few ok rules.DuplicateGroup row =
-    let same : broken s rules.DuplicateGroup row ≡ broken r rules.DuplicateGroup row = rw h.groups refl in same ∙ ok rules.DuplicateGroup row
+-- the other rules look at no site
+accepted p e r s h few ok other row = simp (h.zones, h.groups) (ok other row)

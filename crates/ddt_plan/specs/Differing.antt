@@ -27,6 +27,11 @@ pub record AreDifferences (r s : Register) (q : List ℕ) (marked : List (List �
   pub sites_new : AreMarked (λ m. m.prefix) q (states_of s) (states_of r) marked
   pub in_order : AreInOrder (λ p. p) marked
 
+-- an earlier register and a later one
+pub record BothRegisters : Type 0 where
+  pub before : Register
+  pub after : Register
+
 -- What two registers say at the same prefix: r, the earlier one, and s, the later one; and where they differ below it.
 pub record AreSides (r s : Register) (q : List ℕ) (sides : Sides) : Type 0 where
   pub before : IsSide r q sides.before

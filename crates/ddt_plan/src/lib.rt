@@ -3,9 +3,9 @@
 //!
 //! No list of blocks or changes is kept: a walk down the digits gives each block or change to a sink as it finds it. A
 //! walk of changes ends where both registers have the same zones and sites. `differences` lists the prefixes at which
-//! they differ, and `skip_unchanged` skips the digits between these. `groups` compares the configurations that
-//! `ddt_compile` makes of both registers, whatever the order of their rows. `items` compares the rows of both registers
-//! by their keys.
+//! they differ, and `skip_unchanged` skips the digits between these. A `SortedPair` keeps two registers sorted for any
+//! number of walks. `groups` compares the configurations that `ddt_compile` makes of both registers, whatever the order
+//! of their rows. `items` compares the rows of both registers by their keys.
 //!
 //! In reading order: `sink`, `block_list`, `change_list`, `outcomes`, `counts`; `walk`, with `skip_unchanged`,
 //! `differences`, `sides`, `prefix_halves` and `servers` below it; `groups`, with `versions` and `config_comparison`
@@ -32,7 +32,7 @@ mod versions;
 mod walk;
 
 pub use block_list::{Block, blocks};
-pub use change_list::{Change, changes};
+pub use change_list::{Change, SortedPair, changes, changes_of_sorted};
 pub use counts::{ChangeCounts, CountFull, OutcomeCounts};
 pub use groups::{GroupChange, GroupChangeKind, group_changes};
 pub use items::{

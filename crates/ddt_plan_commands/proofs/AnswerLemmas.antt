@@ -1,18 +1,28 @@
 -- From what was written of registers to the answers of the commands.
-use Rattle.std.proofs.Common.{◌≡◌, ◌∙◌, ℕ, Bool, List, length, Option, None, ap}
-use Rattle.std.specs.Prelude.{◌||◌, Ok}
+use Rattle.std.proofs.Common.{◌≡◌, ◌∙◌, ℕ, Bool, List, [], length, Option, None, ap, subst}
+use Rattle.std.specs.Prelude.{◌||◌, Ok, false}
 use Rattle.ddt_text.specs.FirstFault.{prefix_in}
 use Rattle.ddt_register.specs.declared.register.Register.{Register}
 use Rattle.ddt_check.specs.Rules.{IsAccepted}
 use Rattle.ddt_plan.specs.declared.change_list.Change.{Change}
 use Rattle.ddt_plan.specs.declared.counts.ChangeCounts.{ChangeCounts}
 use Rattle.ddt_plan.specs.declared.groups.GroupChange.{GroupChange}
+use Rattle.ddt_plan.specs.declared.outcomes.Reading.{Reading}
+use Rattle.ddt_plan.specs.declared.sink.PlanFault.{PlanFault}
+use Rattle.ddt_plan.specs.declared.sink.PlanFault.TheVariants as plan
+use Rattle.ddt_plan.specs.Changes.{AreChanges}
+use Rattle.ddt_plan.specs.Differing.{BothRegisters}
 use Rattle.ddt_commands.specs.Register.{HasBytes, Spell}
 use Rattle.ddt_plan_commands.specs.declared.arguments.BlocksAsked.{BlocksAsked}
 use Rattle.ddt_plan_commands.specs.declared.arguments.DiffAsked.{DiffAsked}
 use Rattle.ddt_plan_commands.specs.declared.arguments.Form.{Form}
+use Rattle.ddt_plan_commands.specs.declared.block_lines.LineFault.{LineFault}
+use Rattle.ddt_plan_commands.specs.declared.block_lines.LineFault.TheVariants as line
+use Rattle.ddt_plan_commands.specs.declared.review.Review.{Review}
 use Rattle.ddt_plan_commands.specs.Answers.{IsBlocksText, IsBlocksAnswer, IsDiffText, IsDiffAnswer}
 use Rattle.ddt_plan_commands.specs.Counted.{has_counted, no_changes, with_changes}
+use Rattle.ddt_plan_commands.specs.Refusals.{IsWhyUnwritten, stop_of_lines}
+use Rattle.ddt_plan_commands.specs.Review.{IsReview}
 use Rattle.ddt_plan_commands.specs.Written.{differs, has_some, written_change_counts}
 use Rattle.ddt_plan_commands.proofs.SinkLemmas.{counted_some}
 
@@ -44,3 +54,20 @@ all_counted form counts all groups are = record {
   text = ap (λ (n : ChangeCounts). written_change_counts form n (length groups)) are;
   differs_so = ap (λ (b : Bool). b || has_some groups) (ap (λ (n : ChangeCounts). has_counted n.before) are ∙ counted_some all no_changes);
 }
+
+-- no list of lines ends as a count that is full
+pub lines_stop : (fault : PlanFault LineFault) → IsWhyUnwritten false (stop_of_lines fault)
+lines_stop plan.Memory = tt
+lines_stop (plan.Refused line.Memory) = tt
+lines_stop (plan.Refused line.Unprinted) = tt
+
+module _ (reading : Reading) (pair : BothRegisters) (r s : Register) (is : pair ≡ record { before = r; after = s }) where
+  -- what differs between the registers of a pair differs between those that it was made from
+  pub review_of : (v : Review) → IsReview reading pair.before pair.after v → IsReview reading r s v
+  review_of v found = subst (λ (b : BothRegisters). IsReview reading b.before b.after v) is found
+
+  -- the same of all changes, at the prefix that covers everything
+  pub changes_of : (p : List ℕ) (all : List Change) → p ≡ [] → AreChanges reading pair.before pair.after p all → AreChanges reading r s [] all
+  changes_of p all whole are =
+      subst (λ (b : BothRegisters). AreChanges reading b.before b.after [] all) is
+      (subst (λ (q : List ℕ). AreChanges reading pair.before pair.after q all) whole are)

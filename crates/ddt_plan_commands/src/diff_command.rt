@@ -22,7 +22,10 @@ use crate::review::{compare, everything, is_different};
 use crate::summary::written_summary;
 use ddt_check::Accepted;
 use ddt_lines::print;
-use ddt_plan::{ChangeCounts, GroupChange, OutcomeCounts, Reading, changes, group_changes};
+use ddt_plan::{
+    ChangeCounts, GroupChange, OutcomeCounts, Reading, SortedPair, changes, changes_of_sorted,
+    group_changes,
+};
 use std::alloc::Global;
 use std::io::{Read, Write};
 
@@ -150,12 +153,14 @@ fn summarize<W: Write>(
         (W.contents out.old) (W.contents out.new) }
     ensures refused { IfErr result (IsWhyUnwritten false) }
 {
-    let found = compare(alloc, reading, before, after)?;
+    let pair = SortedPair::of(alloc, before, after)?;
+    let found = compare(alloc, reading, &pair)?;
     print(&written_summary(alloc, form, &found)?, out)?;
     Ok(is_different(&found))
 }
 
-/// Writes the summary, the line of each change, and the text after them.
+/// Writes the summary, the line of each change, and the text after them. The changes are found twice, of registers that
+/// are sorted once.
 fn list_changes<W: Write + Drop>(
     alloc: Global,
     reading: Reading,
@@ -171,10 +176,11 @@ fn list_changes<W: Write + Drop>(
         (W.contents lines.old.out) (W.contents lines.new.out) }
     ensures refused { IfErr result (IsWhyUnwritten false) }
 {
-    let found = compare(alloc, reading, before, after)?;
+    let pair = SortedPair::of(alloc, before, after)?;
+    let found = compare(alloc, reading, &pair)?;
     let form = lines.form;
     print(&heading(alloc, form, &found)?, &mut lines.out)?;
-    changes(alloc, reading, before, after, everything(), lines)?;
+    changes_of_sorted(reading, &pair, everything(), lines)?;
     print(&ending(alloc, form, &found)?, &mut lines.out)?;
     Ok(is_different(&found))
 }

@@ -7,9 +7,10 @@ ghost use Rattle.ddt_plan_commands.specs.Review.{IsReview, has_items as has_item
 use crate::command_error::CommandError;
 use crate::effects::Effects;
 use crate::referrals::has_outdated;
-use ddt_check::Accepted;
 use ddt_path::{Locator, Prefix, Xeid};
-use ddt_plan::{GroupChange, ItemChanges, Reading, changes, group_changes, item_changes};
+use ddt_plan::{
+    GroupChange, ItemChanges, Reading, SortedPair, changes_of_sorted, group_changes, item_changes,
+};
 use std::alloc::Global;
 
 /// The differences between two registers.
@@ -29,17 +30,17 @@ pub struct Review {
 pub(crate) fn compare(
     alloc: Global,
     reading: Reading,
-    before: &Accepted,
-    after: &Accepted,
+    pair: &SortedPair<'_>,
 ) -> Result<Review, CommandError<'static>>
-    ensures found { IfOk result (IsReview reading before.now after.now) }
+    ensures found { IfOk result (IsReview reading pair.now.before pair.now.after) }
     ensures refused { IfErr result (IsWhyUnwritten false) }
 {
+    let (before, after) = (pair.before(), pair.after());
     let groups = group_changes(alloc, before, after)?;
     let items = item_changes(alloc, before, after)?;
     let outdated = has_outdated(alloc, before, after)?;
     let mut effects = Effects::default();
-    changes(alloc, reading, before, after, everything(), &mut effects)?;
+    changes_of_sorted(reading, pair, everything(), &mut effects)?;
     Ok(Review {
         effects,
         groups,

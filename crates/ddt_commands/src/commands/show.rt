@@ -31,7 +31,8 @@ pub fn run_show<P, E>(alloc: Global, words: &Words<'_>, out: &mut P, err: &mut E
 where
     P: Write,
     E: Write,
-    ensures { Ends result (streams P.contents out.old out.new E.contents err.old err.new) (show_prints (call_of words.now)) }
+    ensures { Ends result (streams P.contents out.old out.new E.contents err.old err.new)
+        (show_prints (call_of words.now)) }
 {
     let answer = lines(alloc, words);
     print_result(alloc, &answer, out, err)

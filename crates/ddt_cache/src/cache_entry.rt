@@ -2,8 +2,8 @@
 
 use ddt_path::{Action, LocatorSet};
 
-/// The part of a saved record that a cache keeps. The root's entry has the action NODE-REFERRAL and the end
-/// 18446744073709551615.
+/// What a cache remembers of a record. That of the root is made with the cache: its action is NODE-REFERRAL, and it
+/// ends at 18446744073709551615, the last moment.
 #[derive(Clone, Copy, Debug, PartialEq, Eq)]
 pub struct Entry {
     /// The record's action.

@@ -1,11 +1,8 @@
 //! The tests of what rolls a register out, a module for each crate: `asking` of ddt_asking, `export`, `folder`,
 //! `loopback` and `rollout` of ddt_deploy, `plan_commands` of ddt_plan_commands.
-//! `comparison` is what all assert by.
 
 #[cfg(test)]
 mod asking;
-#[cfg(test)]
-mod comparison;
 #[cfg(test)]
 mod export;
 #[cfg(test)]

@@ -4,7 +4,7 @@
 //! Command lines are in the folder `tests` at the top, and the program itself runs them. Here are the public calls, with
 //! what no command line shows: wires in memory whose calls are counted, sockets that can't be bound, a clock that steps, a
 //! writer without room, a file that opens and can't be read, refused memory.
-//! `comparison` is what all assert by.
+//! `comparison` is what all assert by, those of `companion` too.
 #![tactic(auto)]
 
 #[cfg(test)]

@@ -2,7 +2,7 @@
 
 use crate::companion::asking::findings::{accepted, clock, options};
 use crate::companion::asking::servers::{Way, World};
-use crate::companion::comparison::{holds, same};
+use crate::comparison::{holds, same};
 use ddt_asking::{
     Prober, Question, QuestionCounts, block_identifiers, changed_identifiers, changed_questions,
     finding_line, questions_of, sampled,

@@ -1,7 +1,7 @@
 //! What is found of the questions for an identifier of the campus, as lines.
 
 use crate::companion::asking::servers::{Way, World};
-use crate::companion::comparison::{holds, same};
+use crate::comparison::{holds, same};
 use ddt_asking::{Client, Finding, FindingCounts, ProbeOptions, Prober, finding_line};
 use ddt_cache::Moment;
 use ddt_check::{Accepted, check};

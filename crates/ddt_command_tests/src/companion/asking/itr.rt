@@ -2,7 +2,7 @@
 
 use crate::companion::asking::findings::{accepted, clock};
 use crate::companion::asking::servers::locator;
-use crate::companion::comparison::same;
+use crate::comparison::same;
 use ddt_asking::{
     Client, Finding, ProbeOptions, Prober, Verdict, can_be_seen, itr_finding_line, itr_question,
     verdict_of_itr_reply,

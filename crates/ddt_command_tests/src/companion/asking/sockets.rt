@@ -1,6 +1,6 @@
 //! Wires that wait, over the loopback network.
 
-use crate::companion::comparison::{holds, same};
+use crate::comparison::{holds, same};
 use ddt_asking::BlockingWires;
 use ddt_ecm::CONTROL_PORT;
 use ddt_path::Locator;

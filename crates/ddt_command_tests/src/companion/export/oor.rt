@@ -1,6 +1,6 @@
 //! Configurations of openoverlayrouter.
 
-use crate::companion::comparison::same;
+use crate::comparison::same;
 use ddt_check::check;
 use ddt_compile::compile_group;
 use ddt_deploy::export::{OorFile, oor_text};

@@ -1,8 +1,8 @@
 //! A folder that fails at each of its calls in turn: each file is the old one or the new one, and once more publishes
 //! all.
 
-use crate::companion::comparison::holds;
 use crate::companion::folder::registers::{accepted, config, published};
+use crate::comparison::holds;
 use ddt_deploy::folders::{FileName, FolderInMemory, MemoryFault, PublishFault, publish};
 use ddt_examples::registers::{CAMPUS, CAMPUS_GROWN};
 use std::alloc::Global;

@@ -1,8 +1,8 @@
 //! What is published of worked registers.
 
-use crate::companion::comparison::same;
 use crate::companion::folder::registers::{config, has, publishes, publishes_but};
 use crate::companion::folder::sealed::{EAST, ROOT, TEN};
+use crate::comparison::same;
 use ddt_deploy::folders::{FileName, FolderInMemory};
 use ddt_examples::registers::{CAMPUS, CAMPUS_GROWN};
 use std::alloc::Global;

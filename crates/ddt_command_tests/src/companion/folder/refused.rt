@@ -3,8 +3,8 @@
 //!
 //! `.ci/memory` runs each of these tests with each growth refused in turn.
 
-use crate::companion::comparison::same;
 use crate::companion::folder::registers::has;
+use crate::comparison::same;
 use ddt_check::{Accepted, check};
 use ddt_deploy::folders::{FileName, FolderInMemory, MemoryFault, Plan, PublishFault, publish};
 use ddt_examples::registers::CAMPUS;

@@ -1,6 +1,6 @@
 //! Registers, their names and their texts.
 
-use crate::companion::comparison::same;
+use crate::comparison::same;
 use ddt_check::{Accepted, check};
 use ddt_deploy::folders::{FileName, FolderInMemory, Plan, lines_of, publish};
 use ddt_examples::registers::CAMPUS;

@@ -1,9 +1,9 @@
 //! What the commands write of worked registers, and why they refuse.
 
-use crate::companion::comparison::same;
 use crate::companion::plan_commands::files::{
     GROWN, Written, blocks_written, diff_written, of_campus, to,
 };
+use crate::comparison::same;
 use ddt_plan::Reading;
 use ddt_plan::Reading::{Exact, Service};
 use ddt_plan_commands::Form::{Json, Text};

@@ -1,9 +1,9 @@
 //! Writers without room for what a command has to say: they have a front of it.
 
-use crate::companion::comparison::{holds, same};
 use crate::companion::plan_commands::files::{
     blocks_written, diff_written, file_at, of_campus, to,
 };
+use crate::comparison::{holds, same};
 use ddt_plan::Reading::Service;
 use ddt_plan_commands::Form::Text;
 use ddt_plan_commands::{DiffOutput, ExitStatus, run_blocks, run_diff};

@@ -2,10 +2,10 @@
 //!
 //! `.ci/memory` runs each of these tests with each growth refused in turn.
 
-use crate::companion::comparison::{holds, same};
 use crate::companion::plan_commands::files::{
     GROWN, Written, blocks_written, diff_written, of_campus, to,
 };
+use crate::comparison::{holds, same};
 use ddt_plan::Reading::Service;
 use ddt_plan_commands::Form::Text;
 use ddt_plan_commands::{DiffOutput, ExitStatus};

@@ -1,6 +1,6 @@
 //! The words that ask for a command.
 
-use crate::companion::comparison::same;
+use crate::comparison::same;
 use clap::error::ErrorKind;
 use ddt_plan::Reading;
 use ddt_plan_commands::{Asked, BlocksAsked, DiffAsked, DiffOutput, Form, SeamAsked, read_asked};

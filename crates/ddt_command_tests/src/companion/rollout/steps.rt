@@ -1,6 +1,6 @@
 //! Changes of small registers, and the steps in which they are rolled out.
 
-use crate::companion::comparison::same;
+use crate::comparison::same;
 use ddt_check::{Accepted, check};
 use ddt_config::{Content, ServerConfig};
 use ddt_deploy::rollout::{RolloutFault, Stage, configurations_at, rollout_lines, rollout_steps};

@@ -1,3 +1,5 @@
+pub mod FaultLemmas
+pub mod PlaceLemmas
 pub mod RoomLemmas
 pub mod StandsLemmas
 pub mod WriteLemmas

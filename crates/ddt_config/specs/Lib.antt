@@ -2,6 +2,7 @@ pub mod Shaped
 pub mod Table
 pub mod Answer
 pub mod Reading
+pub mod Place
 pub mod Writing
 pub mod Entries
 pub mod Stands

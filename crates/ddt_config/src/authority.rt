@@ -9,7 +9,7 @@ ghost use Rattle.ddt_config.specs.Reading.{authority_fits};
 ghost use Rattle.ddt_config.specs.Writing.{written_authority, content_data, content_key as content_key_of, IsContentSpelled, IsAuthoritySpelled};
 
 use crate::child::{Child, ChildDraft};
-use crate::config_item::{ConfigItem, finish_each, items_at};
+use crate::config_item::{ConfigItem, are_read, finish_each, items_at};
 use crate::fault::{ConfigFault, Key};
 use crate::members::prefix_in;
 use crate::site_entry::{SiteDraft, SiteEntry};
@@ -90,6 +90,14 @@ impl ConfigItem for AuthorityDraft {
             Role::Ms => ContentDraft::Sites(items_at(alloc, role, table, Key::Site)?),
         };
         Ok(AuthorityDraft { prefix, content })
+    }
+
+    fn is_read(role: Role, table: &Table) -> bool {
+        prefix_in(table).is_ok()
+            && match role {
+                Role::Node => are_read::<ChildDraft>(role, table, Key::Child),
+                Role::Ms => are_read::<SiteDraft>(role, table, Key::Site),
+            }
     }
 
     fn finish(&self, alloc: Global) -> Result<Authority, AllocError> {

@@ -7,7 +7,7 @@ ghost use Rattle.ddt_config.specs.Writing.{written_child, IsChildSpelled};
 
 use crate::config_item::ConfigItem;
 use crate::fault::{ConfigFault, Key};
-use crate::members::{locators_at, prefix_in, role_in};
+use crate::members::{are_locators_at, locators_at, prefix_in, role_in};
 use crate::values::{Written, array_value, prefix_value, put, role_value};
 use ddt_path::{Listed, Locator, LocatorSet, Prefix, Prefixed, Role};
 use std::alloc::{AllocError, Global};
@@ -74,6 +74,10 @@ impl ConfigItem for ChildDraft {
             role,
             locators,
         })
+    }
+
+    fn is_read(_role: Role, table: &Table) -> bool {
+        prefix_in(table).is_ok() && role_in(table).is_ok() && are_locators_at(table, Key::Locators)
     }
 
     fn finish(&self, _alloc: Global) -> Result<Child, AllocError> {

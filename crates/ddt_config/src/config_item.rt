@@ -1,6 +1,6 @@
 //! The items of a configuration, each a table of an array: authorities, and in them children or sites.
 
-ghost use Rattle.std.specs.Prelude.{◌≡◌, true, map, IfOk};
+ghost use Rattle.std.specs.Prelude.{◌≡◌, true, map, is_ok, IfOk};
 ghost use Rattle.std.specs.List.{list_all};
 ghost use Rattle.toml.specs.View.{view, table_view};
 ghost use Rattle.ddt_config.specs.Table.{each, item_of, items_in};
@@ -14,7 +14,7 @@ use toml::{Table, Value};
 
 /// An item of a configuration as its table has it: an authority, a child or a site.
 pub trait ConfigItem: Drop {
-    ghost use Rattle.std.specs.Prelude.{Bool, Result};
+    ghost use Rattle.std.specs.Prelude.{Bool, Result, is_ok};
     ghost use Rattle.toml.specs.Data.{Members};
     ghost use Rattle.ddt_path.specs.declared.record.Role.{Role as RoleValue};
     ghost use Rattle.ddt_config.specs.declared.fault.ConfigFault.{ConfigFault as FaultValue};
@@ -31,6 +31,10 @@ pub trait ConfigItem: Drop {
     /// Reads the item in a table, in the configuration of servers of this role.
     fn read(alloc: Global, role: Role, table: &Table) -> Result<Self, ConfigFault>
         ensures { Reads (item_in role (table_view table.now)) result };
+
+    /// Whether the item can be read in a table.
+    fn is_read(role: Role, table: &Table) -> bool
+        ensures { result ≡ is_ok (item_in role (table_view table.now)) };
 
     /// Returns the item with its locators in sets. None of its lists of locators has more than 8.
     fn finish(&self, alloc: Global) -> Result<Self::Finished, AllocError>
@@ -49,6 +53,33 @@ pub fn items_at<T: ConfigItem>(
 {
     let values = tables_at(table, key)?;
     read_each::<T>(alloc, role, values, key)
+}
+
+/// Whether the items at a key can be read.
+pub fn are_read<T: ConfigItem>(role: Role, table: &Table, key: Key) -> bool
+    ensures { result ≡ is_ok (items_in key (T.item_in role) (table_view table.now)) }
+{
+    match tables_at(table, key) {
+        Ok(values) => is_each_read::<T>(role, values, key),
+        Err(_) => false,
+    }
+}
+
+fn is_each_read<T: ConfigItem>(role: Role, values: &[Value], key: Key) -> bool
+    ensures { result ≡ list_all (λ v. is_ok (item_of key (T.item_in role) (view v))) values.now }
+{
+    values
+        .iter()
+        .all(|value| is_item_read::<T>(role, value, key))
+}
+
+fn is_item_read<T: ConfigItem>(role: Role, value: &Value, key: Key) -> bool
+    ensures { result ≡ is_ok (item_of key (T.item_in role) (view value.now)) }
+{
+    match table_in(value, key) {
+        Ok(table) => T::is_read(role, table),
+        Err(_) => false,
+    }
 }
 
 fn read_each<T: ConfigItem>(

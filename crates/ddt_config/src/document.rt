@@ -7,11 +7,13 @@ ghost use Rattle.toml.specs.Text.{IsDocumentText};
 ghost use Rattle.toml.specs.View.{table_view};
 ghost use Rattle.ddt_config.specs.declared.config.ServerConfig.{ServerConfig as ConfigValue};
 ghost use Rattle.ddt_config.specs.Table.{config_in, config_in_text, outline, outline_in, StandsFor};
+ghost use Rattle.ddt_config.specs.Place.{IsFirstFault, ReadsOrPlaces};
 ghost use Rattle.ddt_config.specs.Reading.{IsReportedAs, Reads};
 ghost use Rattle.ddt_config.specs.Writing.{written_config};
 
 use crate::config::{Draft, ServerConfig};
 use crate::fault::ConfigFault;
+use crate::place::PlacedFault;
 use std::alloc::{AllocError, Global};
 use toml::{Table, de, ser};
 
@@ -64,6 +66,28 @@ fn read_draft(alloc: Global, table: Table) -> Result<Draft, ConfigFault>
     ensures { Reads (outline_in (table_view table)) result }
 {
     Draft::read(alloc, &table)
+}
+
+/// Reads a configuration from a table, as `from_table` does, with the place of the fault. Refused as 2 Field, 3 Value,
+/// 4 Shape or 5 Memory, as `from_toml` refuses a text of this table.
+pub fn read_table(alloc: Global, table: Table) -> Result<ServerConfig, PlacedFault>
+    ensures found { IfOk result (λ c. config_in (table_view table) ≡ Ok (outline c)) }
+    ensures refused { IfErr result (λ e. e.fault ≢ ConfigFault.Memory → IsFirstFault (table_view table) e) }
+{
+    let draft = read_placed(alloc, table)?;
+    match ServerConfig::of(alloc, &draft) {
+        Ok(config) => Ok(config),
+        Err(fault) => Err(PlacedFault::of_whole(fault)),
+    }
+}
+
+fn read_placed(alloc: Global, table: Table) -> Result<Draft, PlacedFault>
+    ensures { ReadsOrPlaces (table_view table) result }
+{
+    match Draft::read(alloc, &table) {
+        Ok(draft) => Ok(draft),
+        Err(fault) => Err(PlacedFault::in_table(alloc, &table, fault)),
+    }
 }
 
 /// Writes the configuration as a text in TOML, which `from_toml` reads as the same configuration. The top table has

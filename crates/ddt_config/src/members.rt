@@ -1,6 +1,6 @@
 //! Reads the value at a key of a table: a text, an array, a name, a role, a prefix or locators.
 
-ghost use Rattle.std.specs.Prelude.{◌≡◌, map};
+ghost use Rattle.std.specs.Prelude.{◌≡◌, map, is_ok};
 ghost use Rattle.std.specs.List.{list_all};
 ghost use Rattle.std.specs.Option.{option_map};
 ghost use Rattle.toml.specs.Data.{get_member};
@@ -8,6 +8,7 @@ ghost use Rattle.toml.specs.View.{view, table_view};
 ghost use Rattle.ddt_path.specs.Steps.{IsReadAs};
 ghost use Rattle.ddt_config.specs.Table.{key_text, each, text_of, array_of, table_of, text_at as text_at_of, array_at as array_at_of, array_or_none as array_or_none_of, texts_at as texts_at_of, tables_at as tables_at_of, is_text_value, is_table_value, locator_of, name_in as name_of, role_in as role_of_table, role_of as role_of_text, path_in, locators_in};
 ghost use Rattle.ddt_config.specs.Reading.{Reads};
+ghost use Rattle.ddt_config.specs.Place.{those_of, no_locator as no_locator_of, wrong_text as wrong_text_of};
 
 use crate::fault::{ConfigFault, Key};
 use ddt_path::{Listed, Locator, Name, Prefix, Role};
@@ -160,6 +161,57 @@ fn read_locators(alloc: Global, values: &[Value], key: Key) -> Result<Listed<Loc
         locators.push(locator)?;
     }
     Ok(Listed::of(locators))
+}
+
+/// Whether locators can be read at a key.
+pub fn are_locators_at(table: &Table, key: Key) -> bool
+    ensures { result ≡ is_ok (locators_in key (table_view table.now)) }
+{
+    match texts_at(table, key) {
+        Ok(values) => are_locators(values, key),
+        Err(_) => false,
+    }
+}
+
+fn are_locators(values: &[Value], key: Key) -> bool
+    ensures { result ≡ list_all (λ v. is_ok (locator_of key (view v))) values.now }
+{
+    values.iter().all(|value| locator_in(value, key).is_ok())
+}
+
+/// The text of a fault in its table: the one that isn't of its key's form, else none.
+pub fn wrong_text<'t>(table: &'t Table, fault: ConfigFault) -> Option<&'t str>
+    ensures { option_map (λ t. t.now) result ≡ wrong_text_of fault (table_view table.now) }
+{
+    match fault {
+        ConfigFault::Value(Key::Locators) => no_locator_at(table, Key::Locators),
+        ConfigFault::Value(Key::Etrs) => no_locator_at(table, Key::Etrs),
+        ConfigFault::Value(key) => text_at(table, key).ok(),
+        _ => None,
+    }
+}
+
+/// The first text at a key that is no address.
+fn no_locator_at<'t>(table: &'t Table, key: Key) -> Option<&'t str>
+    ensures { option_map (λ t. t.now) result ≡ no_locator_of (those_of (texts_at_of key (table_view table.now))) }
+{
+    match texts_at(table, key) {
+        Ok(values) => no_locator(values),
+        Err(_) => None,
+    }
+}
+
+fn no_locator<'t>(values: &'t [Value]) -> Option<&'t str>
+    ensures { option_map (λ t. t.now) result ≡ no_locator_of (map view values.now) }
+{
+    for value in values {
+        if let Some(text) = value.as_str()
+            && parse_locator(text.as_bytes()).is_err()
+        {
+            return Some(text);
+        }
+    }
+    None
 }
 
 /// Reads the locators at a key, any number of them.

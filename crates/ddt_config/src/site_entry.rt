@@ -7,7 +7,7 @@ ghost use Rattle.ddt_config.specs.Writing.{written_site, IsSiteSpelled};
 
 use crate::config_item::ConfigItem;
 use crate::fault::{ConfigFault, Key};
-use crate::members::{locators_at, prefix_in};
+use crate::members::{are_locators_at, locators_at, prefix_in};
 use crate::values::{Written, array_value, prefix_value, put};
 use ddt_path::{Listed, Locator, LocatorSet, Prefix, Prefixed, Role};
 use std::alloc::{AllocError, Global};
@@ -66,6 +66,10 @@ impl ConfigItem for SiteDraft {
         let prefix = prefix_in(table)?;
         let etrs = locators_at(alloc, table, Key::Etrs)?;
         Ok(SiteDraft { prefix, etrs })
+    }
+
+    fn is_read(_role: Role, table: &Table) -> bool {
+        prefix_in(table).is_ok() && are_locators_at(table, Key::Etrs)
     }
 
     fn finish(&self, _alloc: Global) -> Result<SiteEntry, AllocError> {

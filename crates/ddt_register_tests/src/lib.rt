@@ -1,5 +1,5 @@
 //! The tests of the register, from CSV to what is compiled: `register` of ddt_register, `check` of ddt_check,
-//! `config` and `sealed` of ddt_config, `compile` of ddt_compile; and `plan` of ddt_plan.
+//! `config`, `places` and `sealed` of ddt_config, `compile` of ddt_compile; and `plan` of ddt_plan.
 //! `comparison` is what all assert by.
 #![tactic(auto)]
 
@@ -11,6 +11,8 @@ mod comparison;
 mod compile;
 #[cfg(test)]
 mod config;
+#[cfg(test)]
+mod places;
 #[cfg(test)]
 mod plan;
 #[cfg(test)]

@@ -6,7 +6,7 @@
 use crate::comparison::same;
 use ddt_check::{Accepted, check};
 use ddt_compile::{compile, compile_group};
-use ddt_config::{ConfigFault, ServerConfig, from_toml, to_toml};
+use ddt_config::{ConfigFault, Key, PlacedFault, ServerConfig, from_toml, read_table, to_toml};
 use ddt_examples::configurations::{EAST, NESTED_EAST, ROOT, TEN, TWO_AUTHORITIES};
 use ddt_examples::registers::{CAMPUS, NESTED_SITES};
 use ddt_path::{Listed, Name};
@@ -156,6 +156,37 @@ fn a_configuration_is_read_and_written_whole(rt: HostRuntime) -> Result<(), Fail
         let config = config(&rt, rt.alloc(), wanted)?;
         is_text(&rt, rt.alloc(), &config, wanted)?;
     }
+    Ok(())
+}
+
+/// The first fault of a configuration's table, read again if memory was refused.
+fn fault(alloc: Global, rt: &impl Abort, text: &str) -> Result<PlacedFault, Fail> {
+    for _try in 0..2 {
+        let Ok(table) = toml::table_from_str(alloc, text) else {
+            continue;
+        };
+        let found = read_table(alloc, table).err().expect(rt, "a fault");
+        if found.fault != ConfigFault::Memory {
+            return Ok(found);
+        }
+    }
+    Err("no fault".into())
+}
+
+/// A node whose second locator is none.
+const NO_LOCATOR: &str = "name = \"a\"\nkind = \"node\"\nlocators = [\"192.0.2.1\", \"x\"]\n";
+
+#[test]
+fn a_fault_has_its_whole_text(rt: HostRuntime) -> Result<(), Fail> {
+    let found = fault(rt.alloc(), &rt, NO_LOCATOR)?;
+    same(
+        &rt,
+        &found.fault,
+        &ConfigFault::Value(Key::Locators),
+        &"the fault",
+    );
+    let text = found.text.as_ref().map(|text| text.as_str());
+    same(&rt, &text, &Some("x"), &"the text");
     Ok(())
 }
 

@@ -2,25 +2,59 @@
 
 use ddt_config::digest::{Key as SealKey, SealFault};
 use ddt_config::settings::{Key as SettingsKey, SettingsFault};
-use ddt_config::{ConfigFault, Key};
-use ddt_text::{parse_locator, parse_prefix};
+use ddt_config::{ConfigFault, Key, Place, PlacedFault};
+use ddt_text::parse_locator;
 use std::alloc::{AllocError, Global};
-use std::str;
-use toml::{Table, Value, de};
+use std::{fmt, str};
+use toml::de;
 
-/// What is wrong with the configuration of a text, in words: the key, and its value where there is one.
-pub fn fault_text(alloc: Global, text: &str, fault: ConfigFault) -> Result<String, AllocError> {
+/// The place of a table in words, each part with its number, before what is said of the table; nothing for the top table.
+#[derive(Clone, Copy)]
+struct Before(Place);
+
+impl fmt::Display for Before {
+    fn fmt<W: fmt::Write>(&self, f: &mut fmt::Formatter<W>) -> fmt::Result {
+        match self.0 {
+            Place::Top => Ok(()),
+            Place::Authority(authority) => write!(f, "authority {authority}: "),
+            Place::Child(authority, child) => write!(f, "authority {authority}, child {child}: "),
+            Place::Site(authority, site) => write!(f, "authority {authority}, site {site}: "),
+        }
+    }
+}
+
+/// What is wrong with a configuration, in words: the table, the key, and the text where there is one.
+pub fn fault_text(alloc: Global, placed: &PlacedFault) -> Result<String, AllocError> {
+    let (fault, table) = (placed.fault, Before(placed.place));
     match fault {
         ConfigFault::Toml => format!(in alloc; "{fault}"),
         ConfigFault::Field(key) => {
             format!(in alloc;
-                "{fault}: {} is missing, or its value is of another kind",
+                "{fault}: {table}{} is missing, or its value is of another kind",
                 key.text()
             )
         }
-        ConfigFault::Value(key) => value_text(alloc, text, key),
+        ConfigFault::Value(key) => {
+            let verb = match key {
+                Key::Locators | Key::Etrs => "has",
+                _ => "is",
+            };
+            format!(in alloc;
+                "{fault}: {table}{} {verb} {}",
+                key.text(),
+                wrong_text(placed)
+            )
+        }
         ConfigFault::Shape => format!(in alloc; "{fault}: no server has such a configuration"),
         ConfigFault::Memory => format!(in alloc; "{fault}: out of memory"),
+    }
+}
+
+/// The text at fault.
+fn wrong_text(placed: &PlacedFault) -> &str {
+    match &placed.text {
+        Some(text) if !text.is_empty() => text.as_str(),
+        _ => "an empty text",
     }
 }
 
@@ -86,69 +120,4 @@ pub fn toml_text(alloc: Global, text: &str, error: &de::Error) -> Result<String,
 fn line_of(bytes: &[u8], place: usize) -> u64 {
     let ends = bytes.iter().take(place).filter(|byte| **byte == b'\n');
     (ends.count() as u64).saturating_add(1)
-}
-
-/// The key, and its first value in the text that isn't of its form.
-fn value_text(alloc: Global, text: &str, key: Key) -> Result<String, AllocError> {
-    let fault = ConfigFault::Value(key);
-    match toml::table_from_str(alloc, text) {
-        Ok(table) => match bad_value(&table, key) {
-            Some(value) => format!(in alloc; "{fault}: {} is {value}", key.text()),
-            None => format!(in alloc; "{fault}: {}", key.text()),
-        },
-        Err(_) => format!(in alloc; "{fault}: {}", key.text()),
-    }
-}
-
-/// The first text at a key of the top table, of its authorities, or of what they hold, that isn't of the key's form.
-fn bad_value<'t>(table: &'t Table, key: Key) -> Option<&'t str> {
-    bad_in(table, key).or_else(|| {
-        tables_of(table, Key::Authority)
-            .iter()
-            .find_map(|value| bad_in_authority(value, key))
-    })
-}
-
-fn bad_in_authority<'t>(value: &'t Value, key: Key) -> Option<&'t str> {
-    let table = value.as_table()?;
-    bad_in(table, key)
-        .or_else(|| bad_below(tables_of(table, Key::Child), key))
-        .or_else(|| bad_below(tables_of(table, Key::Site), key))
-}
-
-fn bad_below<'t>(values: &'t [Value], key: Key) -> Option<&'t str> {
-    values
-        .iter()
-        .find_map(|value| bad_in(value.as_table()?, key))
-}
-
-fn tables_of<'t>(table: &'t Table, key: Key) -> &'t [Value] {
-    match table.get(key.text()) {
-        Some(value) => match value.as_array() {
-            Some(values) => values.as_slice(),
-            None => &[],
-        },
-        None => &[],
-    }
-}
-
-/// The text at a key of this table that isn't of the key's form.
-fn bad_in<'t>(table: &'t Table, key: Key) -> Option<&'t str> {
-    let value = table.get(key.text())?;
-    match value.as_array() {
-        Some(values) => values
-            .iter()
-            .find_map(|value| bad_text(value.as_str()?, key)),
-        None => bad_text(value.as_str()?, key),
-    }
-}
-
-fn bad_text<'t>(text: &'t str, key: Key) -> Option<&'t str> {
-    let is_bad = match key {
-        Key::Locators | Key::Etrs => parse_locator(text.as_bytes()).is_err(),
-        Key::Prefix => parse_prefix(text.as_bytes()).is_err(),
-        Key::Kind => text != "node" && text != "ms",
-        _ => true,
-    };
-    if is_bad { Some(text) } else { None }
 }

@@ -7,7 +7,7 @@ use crate::unknown_keys::{
 };
 use ddt_config::digest::{Seal, check_seal, seal_in};
 use ddt_config::settings::{ServerSettings, Settings};
-use ddt_config::{ConfigFault, ServerConfig, from_table};
+use ddt_config::{ConfigFault, PlacedFault, ServerConfig, read_table};
 use ddt_node::has_room_for;
 use ddt_path::{Name, Role};
 use std::alloc::{AllocError, Global};
@@ -146,12 +146,13 @@ pub fn configuration_in(alloc: Global, text: &str, table: Table) -> Result<Loade
         Err(refused) => return Err(Err(refused)),
     };
     let said = seal_in(&table);
-    let config = match from_table(alloc, table) {
+    let config = match read_table(alloc, table) {
         Ok(config) if !has_room_for(&config) => {
-            return Err(fault_text(alloc, text, ConfigFault::Shape));
+            let fault = PlacedFault::of_whole(ConfigFault::Shape);
+            return Err(fault_text(alloc, &fault));
         }
         Ok(config) => config,
-        Err(fault) => return Err(fault_text(alloc, text, fault)),
+        Err(fault) => return Err(fault_text(alloc, &fault)),
     };
     let checked = match said {
         Ok(said) => check_seal(alloc, said, &config),

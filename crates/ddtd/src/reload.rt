@@ -18,8 +18,8 @@ use crate::server::{ServerRole, addresses_in, bind_locators, locators_served, lo
 use crate::site_keys::load_keyed_sites;
 use crate::system_clock::seconds;
 use crate::systemd_notify::{State, notify};
-use ddt_config::ServerConfig;
 use ddt_config::settings::Settings;
+use ddt_config::{PlacedFault, ServerConfig};
 use ddt_path::Locator;
 use ddt_registrar::Registrar;
 use ddt_trie::HashedMap;
@@ -121,7 +121,7 @@ impl<'a> ServerRole<'a> {
                 Ok(())
             }
             Err(fault) => {
-                let text = fault_text(rt.alloc(), "", fault);
+                let text = fault_text(rt.alloc(), &PlacedFault::of_whole(fault));
                 Err(with_path(rt, self.args.config, text))
             }
         }

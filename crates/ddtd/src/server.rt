@@ -19,8 +19,8 @@ use crate::system_clock::{Clock, Moments};
 use crate::unbound_locators::UnboundLocators;
 use crate::unknown_keys::UnknownKey;
 use crate::unrecognized_afi_log::{MOST_MESSAGES, end_period, log_unrecognized};
-use ddt_config::ServerConfig;
 use ddt_config::settings::ServerSettings;
+use ddt_config::{PlacedFault, ServerConfig};
 use ddt_daemon::{CountedAnswers, CountedWires, DaemonStatistics, ServerSocket, ServerStatistics};
 use ddt_ecm::CONTROL_PORT;
 use ddt_map_server::MapServer;
@@ -164,7 +164,7 @@ fn map_server_of(
     let server = match Server::of_config(rt.alloc(), config) {
         Ok(server) => server,
         Err(fault) => {
-            let text = fault_text(rt.alloc(), "", fault);
+            let text = fault_text(rt.alloc(), &PlacedFault::of_whole(fault));
             return Err(with_path(rt, args.config, text));
         }
     };

@@ -53,8 +53,7 @@ impl PlacedFault {
         }
     }
 
-    /// The fault of a top table, at the place of the first table that can't be read; 5 Memory if its text can't be
-    /// copied.
+    /// The fault of a top table, at the first table that can't be read; 5 Memory if its text can't be copied.
     pub(crate) fn in_table(alloc: Global, table: &Table, fault: ConfigFault) -> PlacedFault
         ensures { result.fault ≢ ConfigFault.Memory
             → (result.fault ≡ fault) × IsAt result (faulty_in_of (table_view table.now)) }

@@ -7,8 +7,8 @@ texts from which that verdict follows.
 A proof of a function stands on its own body and on the contracts of what it calls. So the texts are the edit, the
 functions or else the files that it changes, and the contracts and definitions that these name, or that one of them
 names in turn. A text without a name, such as a type or an impl, always counts. The bodies of other functions that have
-a contract don't, nor do proofs, laws, tactics, comments and imports. OWN is of what the edit's own crate has of these
-texts, BELOW of what all crates below have, by crates.txt; of their contracts the public ones count.
+a contract don't, nor do proofs, laws, tactics, comments, imports and layout. OWN is of what the edit's own crate has of
+these texts, BELOW of what all crates below have, by crates.txt; of their contracts the public ones count.
 """
 from __future__ import annotations
 
@@ -118,10 +118,10 @@ def words_of(text: str) -> frozenset[str]:
 
 
 def checksum(texts: list[str]) -> str:
-    """The first digits of the SHA-256 of these texts, each after its size."""
+    """The first digits of the SHA-256 of these texts, each after its size, without their layout."""
     total = hashlib.sha256()
     for text in texts:
-        content = text.encode()
+        content = " ".join(text.split()).encode()
         total.update(f"{len(content)}\n".encode() + content)
     return total.hexdigest()[:16]
 

@@ -97,7 +97,9 @@ def text_of(value: typing.Any) -> str:
 
 
 def of_another_kind(key: str) -> str:
-    return f"2 Field: %s{key} is missing, or its value is of another kind"
+    if key not in TEXTS:
+        return f"2 Field: %s{key} is no array of tables"
+    return f"2 Field: %s{key} is missing, or no {'array of texts' if key in LISTS else 'text'}"
 
 
 def fault_of_key(where: Table, key: str) -> str | None:

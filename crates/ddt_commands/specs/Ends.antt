@@ -73,8 +73,8 @@ StayApart Refused same_out same_err = same_out
 StayApart BadWords same_out same_err = same_out
 StayApart Unprinted same_out same_err = same_out ⊎ same_err
 
--- A command that may print this ends with this status. `fits`: the words fit it. `answered`: the output has its text, and
--- the status says whether that is complete. `refused`: the error stream has the line of its refusal. `unprinted`: a
+-- A command that may print this ends with this status. `fits`: the words fit it. `answered`: the output has its text,
+-- and the status says whether that is complete. `refused`: the error stream has the line of its refusal. `unprinted`: a
 -- writer failed, and has a front of what it was to have.
 pub record Ends (status : Status) (on : Streams) (may : Prints) : Type 0 where
   pub fits : status ≢ BadWords

@@ -13,6 +13,7 @@ use Rattle.ddt_config.specs.declared.fault.ConfigFault.TheVariants.{Field}
 use Rattle.ddt_config.specs.Table.{each, items_in, is_table_value, item_of, tables_at, array_or_none, all_of, key_text, path_in, role_in, name_in, locators_in, child_in, site_in, content_in, authority_in, outline_in}
 use Rattle.ddt_config.specs.Place.{first_unread, faulty_in_authority, faulty_in, top_role}
 use Rattle.ddt_config.specs.laws.Statements.{own_keys, FaultsAreAtTheirPlaces}
+use Rattle.ddt_config.proofs.NumberLemmas.{at_its_place}
 
 -- the first step of two is refused, or the second one
 first_or_next : {A B : Type 0} (r : Result A ConfigFault) (f : A → Result B ConfigFault) (fault : ConfigFault) → (r >>= f) ≡ Err fault
@@ -121,9 +122,12 @@ below_top ms role fault is role_is e =
       | inr found ↦ rw (is, found.1, found.2.2) (in_authority ms role found.2.0 found.2.1 fault role_is found.2.3)
     ]
 
-pub faults_are_at_their_places : FaultsAreAtTheirPlaces
-faults_are_at_their_places ms fault e =
+own_fault : (ms : Members) (fault : ConfigFault) → outline_in ms ≡ Err fault → own_keys ms (faulty_in ms).0 (faulty_in ms).1 ≡ Err fault
+own_fault ms fault e =
     elim (top_or_below ms fault e) [
       | inl first ↦ rw (first, first) refl
       | inr below ↦ below_top ms below.0 fault below.1 below.2 below.3
     ]
+
+pub faults_are_at_their_places : FaultsAreAtTheirPlaces
+faults_are_at_their_places ms fault e = record { place = at_its_place ms; own = own_fault ms fault e }

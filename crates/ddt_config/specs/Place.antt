@@ -29,7 +29,8 @@ unread is_read d = option_and_then (λ ms. if is_read ms then None else Some ms)
 -- The first table of a list that can't be read, with its number in the list, counted from n.
 abbrev pub first_unread : (Members → Bool) → ℕ → List Data → Option (ℕ × Members)
 first_unread is_read n [] = None
-first_unread is_read n (d ∷ ds) = option_or (option_map (λ ms. (n, ms)) (unread is_read d)) (first_unread is_read (n + 1) ds)
+first_unread is_read n (d ∷ ds) =
+    option_or (option_map (λ ms. (n, ms)) (unread is_read d)) (first_unread is_read (n + 1) ds)
 
 -- the first child that can't be read, and the first site
 abbrev pub unread_child : Members → Option (ℕ × Members)
@@ -94,6 +95,10 @@ wrong_text other ms = None
 pub record IsAt (fault : PlacedFault) (table : Place × Members) : Type 0 where
   pub place : fault.place ≡ table.0
   pub text : option_map string_bytes fault.text ≡ wrong_text fault.fault table.1
+
+-- where memory was refused, no table is named, and no text
+abbrev pub IsWholeIfMemory : PlacedFault → Type 0
+IsWholeIfMemory fault = fault.fault ≡ Memory → fault ≡ record { fault = Memory; place = Top; text = None }
 
 -- the fault is the first one of a configuration, at its place and with its text
 pub record IsFirstFault (ms : Members) (fault : PlacedFault) : Type 0 where

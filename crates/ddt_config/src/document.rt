@@ -7,7 +7,7 @@ ghost use Rattle.toml.specs.Text.{IsDocumentText};
 ghost use Rattle.toml.specs.View.{table_view};
 ghost use Rattle.ddt_config.specs.declared.config.ServerConfig.{ServerConfig as ConfigValue};
 ghost use Rattle.ddt_config.specs.Table.{config_in, config_in_text, outline, outline_in, StandsFor};
-ghost use Rattle.ddt_config.specs.Place.{IsFirstFault, ReadsOrPlaces};
+ghost use Rattle.ddt_config.specs.Place.{IsFirstFault, IsWholeIfMemory, ReadsOrPlaces};
 ghost use Rattle.ddt_config.specs.Reading.{IsReportedAs, Reads};
 ghost use Rattle.ddt_config.specs.Writing.{written_config};
 
@@ -69,10 +69,11 @@ fn read_draft(alloc: Global, table: Table) -> Result<Draft, ConfigFault>
 }
 
 /// Reads a configuration from a table, as `from_table` does, with the place of the fault. Refused as 2 Field, 3 Value,
-/// 4 Shape or 5 Memory, as `from_toml` refuses a text of this table.
+/// 4 Shape or 5 Memory, as `from_toml` refuses a text of this table; 5 Memory has the top table, and no text.
 pub fn read_table(alloc: Global, table: Table) -> Result<ServerConfig, PlacedFault>
     ensures found { IfOk result (λ c. config_in (table_view table) ≡ Ok (outline c)) }
     ensures refused { IfErr result (λ e. e.fault ≢ ConfigFault.Memory → IsFirstFault (table_view table) e) }
+    ensures memory { IfErr result IsWholeIfMemory }
 {
     let draft = read_placed(alloc, table)?;
     match ServerConfig::of(alloc, &draft) {
@@ -82,7 +83,8 @@ pub fn read_table(alloc: Global, table: Table) -> Result<ServerConfig, PlacedFau
 }
 
 fn read_placed(alloc: Global, table: Table) -> Result<Draft, PlacedFault>
-    ensures { ReadsOrPlaces (table_view table) result }
+    ensures placed { ReadsOrPlaces (table_view table) result }
+    ensures memory { IfErr result IsWholeIfMemory }
 {
     match Draft::read(alloc, &table) {
         Ok(draft) => Ok(draft),

@@ -4,7 +4,7 @@ ghost use Rattle.std.specs.Prelude.{◌≡◌, false, map, is_ok, Ok, IfOk, Matc
 ghost use Rattle.std.specs.Option.{option_map};
 ghost use Rattle.toml.specs.View.{view, table_view};
 ghost use Rattle.ddt_config.specs.Table.{tables_at as tables_at_of};
-ghost use Rattle.ddt_config.specs.Place.{IsAt, those_of, unread as unread_of, first_unread as first_unread_of, unread_below as unread_below_of, faulty_in_authority as faulty_in_authority_of, top_role as top_role_of, faulty_in as faulty_in_of};
+ghost use Rattle.ddt_config.specs.Place.{IsAt, IsWholeIfMemory, those_of, unread as unread_of, first_unread as first_unread_of, unread_below as unread_below_of, faulty_in_authority as faulty_in_authority_of, top_role as top_role_of, faulty_in as faulty_in_of};
 
 use crate::authority::AuthorityDraft;
 use crate::child::ChildDraft;
@@ -33,7 +33,7 @@ pub enum Place {
 #[derive(Debug, Drop)]
 pub struct PlacedFault {
     pub fault: ConfigFault,
-    /// The table that has the fault: the top table for 1 Toml and 4 Shape. For 5 Memory it has no meaning.
+    /// The table that has the fault: the top table for 1 Toml, 4 Shape and 5 Memory.
     pub place: Place,
     /// For 3 Value the text that isn't of its key's form, the first one of several; else none.
     pub text: Option<String>,
@@ -53,11 +53,16 @@ impl PlacedFault {
         }
     }
 
-    /// The fault of a top table, at the first table that can't be read; 5 Memory if its text can't be copied.
+    /// The fault of a top table, at the first table that can't be read. It's 5 Memory, of the whole, if the fault is,
+    /// and if its text can't be copied.
     pub(crate) fn in_table(alloc: Global, table: &Table, fault: ConfigFault) -> PlacedFault
-        ensures { result.fault ≢ ConfigFault.Memory
+        ensures placed { result.fault ≢ ConfigFault.Memory
             → (result.fault ≡ fault) × IsAt result (faulty_in_of (table_view table.now)) }
+        ensures memory { IsWholeIfMemory result }
     {
+        if fault == ConfigFault::Memory {
+            return PlacedFault::of_whole(fault);
+        }
         let (place, found) = faulty_in(table);
         match copied(alloc, wrong_text(found, fault)) {
             Ok(text) => PlacedFault { fault, place, text },

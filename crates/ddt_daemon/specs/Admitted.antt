@@ -60,9 +60,9 @@ pub record HasRoom (kept : List WaitingRequest) (from : Locator) : Type 0 where
   pub few : length kept < most_pending
   pub few_of_source : of_source kept from < most_of_source
 
--- What a request needs. `answered`: its answer is remembered, so that it doesn't wait. `shares`: no answer is, and an ITR
--- waits for the lookup of the same identifier. `begins`: none does, and a lookup begins at a referral set that few wait
--- for.
+-- What a request needs. `answered`: its answer is remembered, so that it doesn't wait. `shares`: no answer is, and an
+-- ITR waits for the lookup of the same identifier. `begins`: none does, and a lookup begins at a referral set that few
+-- wait for.
 pub data HasPlace (kept : List WaitingRequest) (w : Running) (from : Locator) (q : ItrRequest) : Type 0 where
   answered : IsAnswered w.state q.xeid → HasPlace kept w from q
   shares : (t : ℕ) → IsUnanswered w.state q.xeid → IsAskedBy w.desk.waiting t q.xeid → HasRoom kept from
@@ -146,9 +146,10 @@ pub record WouldWait (settings : Settings) (kept : List WaitingRequest) (w : Run
   pub unlike : waits_for kept q ≡ false
   pub unanswered : IsUnanswered w.state q.xeid
 
--- It is dropped, by the first of these reasons. Full, SourceFull, SetFull: no answer is remembered, and too many wait, of
--- all, of its source, or for the referral set at which its lookup would begin. Looped: there is a place for it, but it
--- came back from where it was sent on to; no answer rests on what came before. Memory: there is a place for it, but no memory to keep it in.
+-- It is dropped, by the first of these reasons. Full, SourceFull, SetFull: no answer is remembered, and too many wait,
+-- of all, of its source, or for the referral set at which its lookup would begin. Looped: there is a place for it, but
+-- it came back from where it was sent on to; no answer rests on what came before. Memory: there is a place for it, but
+-- no memory to keep it in.
 abbrev pub IsDropped : Settings → List WaitingRequest → Running → Locator → List ℕ → Dropped → Type 0
 IsDropped settings kept w from bytes Denied = is_allowed settings.allow from ≡ false
 IsDropped settings kept w from bytes TooLong =

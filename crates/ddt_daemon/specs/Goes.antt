@@ -33,9 +33,10 @@ abbrev pub goes_on : Option Locator → Result Outcome Why → List ℕ → List
 goes_on None end bytes = []
 goes_on (Some server) end bytes = onward server end (Some bytes)
 
--- The requests that wait for a lookup which has ended are closed, the first first: each is told, if it shares the lookup,
--- and goes on, if its site is registered.
-pub data Closes (me : Locator) (by : Option Locator) (e : End) (old : List WaitingRequest) : List Call → List Call → List WaitingRequest → Type 0
+-- The requests that wait for a lookup which has ended are closed, the first first: each is told, if it shares the
+-- lookup, and goes on, if its site is registered.
+pub data Closes (me : Locator) (by : Option Locator) (e : End) (old : List WaitingRequest)
+    : List Call → List Call → List WaitingRequest → Type 0
   where
     starts : Closes me by e old [] [] old
     one : {near far : List Call} {left : List WaitingRequest} (before after : List WaitingRequest) (k : WaitingRequest)

@@ -84,7 +84,8 @@ pub data IsAsked (me : Locator) (now : ℕ) (a : Waiter) (w : Resolving) (near :
 abbrev pub StillWait : Running → Running → Type 0
 StillWait w new = waiting_itrs new.desk.waiting ≡ waiting_itrs w.desk.waiting
 
--- What a datagram of these bytes from UDP port 4342 does, as it is heard. One that the resolver ignores is counted by why.
+-- What a datagram of these bytes from UDP port 4342 does, as it is heard. One that the resolver ignores is counted by
+-- why.
 pub record HearsReply (me : Locator) (now : ℕ) (p : Packet) (heard : List ℕ) (w : Resolving) (near far : List Call)
     (new : Resolving) : Type 0 where
   pub tries : List Call
@@ -130,14 +131,15 @@ pub data IsHeard (me : Locator) (now : ℕ) (p : Packet) (bytes : List ℕ) (w :
       → far ≡ [] → new ≡ w → IsHeard me now p bytes w near far new
 
 -- What is done with a packet. `dropped`: an Encapsulated Control Message is dropped, and counted by why. `answered`: it
--- is a request whose answer is remembered, and the ITR is told. `shared`: it is a request, and shares the lookup that an
--- ITR waits for. `asked`: it is a request, and asked for; where it waits, the servers are kept at which its lookup
+-- is a request whose answer is remembered, and the ITR is told. `shared`: it is a request, and shares the lookup that
+-- an ITR waits for. `asked`: it is a request, and asked for; where it waits, the servers are kept at which its lookup
 -- begins, so that it counts among those of its referral set. `heard`: any other datagram.
 pub data IsHandled (settings : Settings) (me : Locator) (now : ℕ) (p : Packet) (bytes : List ℕ) (w : Resolving)
     (near far : List Call) (new : Resolving) : Type 0 where
   dropped : (why : Dropped) (v : Running) → is_of Encapsulated bytes ≡ true
       → IsDropped settings w.kept (at_moment now w.running) p.from bytes why → HasWaited now w.running v → near ≡ []
-      → far ≡ [] → new ≡ resolving v w.kept (with_dropped w.counts why) → IsHandled settings me now p bytes w near far new
+      → far ≡ [] → new ≡ resolving v w.kept (with_dropped w.counts why)
+      → IsHandled settings me now p bytes w near far new
   answered : (q : ItrRequest) (o : Outcome) → is_of Encapsulated bytes ≡ true
       → IsAdmitted settings w.kept (at_moment now w.running) p.from bytes q
       → Answers (moved now w.running.state) q.xeid o → IsToldItr me o q near → far ≡ []

@@ -24,8 +24,8 @@ use Rattle.ddt_daemon.specs.Rounds.{Resolving, resolving, at_moment, IsRound, Is
 
 -- What has been done so far, by the calls of the near wires and those of the far wires: rounds, each by the settings in
 -- force, ticks, lookups that are hastened, requests that are sent again, prefixes that are forgotten, time that passes,
--- and renewals, in any order. `renewal`: another resolver, that may begin and gives no nonce again, goes on, and nothing
--- waits.
+-- and renewals, in any order. `renewal`: another resolver, that may begin and gives no nonce again, goes on, and
+-- nothing waits.
 pub data HasServed (may_begin : State → Type 0) (me : Locator) (start : Resolving) :
     List Call → List Call → Resolving → Type 0 where
   begins : HasServed may_begin me start [] [] start
@@ -57,7 +57,8 @@ pub data HasServed (may_begin : State → Type 0) (me : Locator) (start : Resolv
 pub data IsSpelledCall : Call → Call → Type 0 where
   as_it_is : (call : Call) → IsSpelledCall call call
   request : (at : Locator) (room : ℕ) (p : Packet) (bytes plain : List ℕ) (q : ItrRequest) → AsksFor bytes q
-      → IsItrRequest plain q → IsSpelledCall (Received at room (Ok (Some p)) bytes) (Received at room (Ok (Some p)) plain)
+      → IsItrRequest plain q
+      → IsSpelledCall (Received at room (Ok (Some p)) bytes) (Received at room (Ok (Some p)) plain)
   referral : (at : Locator) (room : ℕ) (p : Packet) (bytes plain : List ℕ) (x : Xeid) → Gives x bytes plain
       → IsSpelledCall (Received at room (Ok (Some p)) bytes) (Received at room (Ok (Some p)) plain)
 

@@ -36,8 +36,8 @@ abbrev pub is_map_server : Role → Bool
 is_map_server Ms = true
 is_map_server Node = false
 
--- The kind of client of a datagram from an address, or why it is dropped. Only a Map-Server answers ITRs, and only those whose
--- addresses its settings allow.
+-- The kind of client of a datagram from an address, or why it is dropped. Only a Map-Server answers ITRs, and only
+-- those whose addresses its settings allow.
 abbrev pub service_for : Role → ServerSettings → Locator → Asked → Service
 service_for role settings from v =
     if v.probe then Probe
@@ -118,7 +118,8 @@ pub data IsTurn (c : Outline) (settings : ServerSettings) (at : Locator) : List 
   served : (p : Packet) (bytes : List ℕ) (tries : List Call) → AreTried at (sends_to c settings p bytes) tries
       → IsTurn c settings at (Received at most_bytes (Ok (Some p)) bytes ∷ tries)
   out_of_memory : (p : Packet) (bytes : List ℕ) (v : Asked) → request_in bytes ≡ Ok v
-      → IsServed (service_for c.role settings p.from v) → IsTurn c settings at (Received at most_bytes (Ok (Some p)) bytes ∷ [])
+      → IsServed (service_for c.role settings p.from v)
+      → IsTurn c settings at (Received at most_bytes (Ok (Some p)) bytes ∷ [])
 
 -- a number of turns, one after the other
 pub record AreTurns (c : Outline) (settings : ServerSettings) (at : Locator) (count : ℕ) (calls : List Call) : Type 0

@@ -14,7 +14,8 @@ is_same_xeid x y = (x.iid == y.iid) && is_same_locator x.address y.address
 
 -- Whether an ITR repeats a request: the nonce, the XEID, the ITR-RLOC and the port that the reply goes to are the same.
 abbrev pub is_same_request : ItrRequest → ItrRequest → Bool
-is_same_request p q = (p.nonce == q.nonce) && (is_same_xeid p.xeid q.xeid && (is_same_locator p.to q.to && (p.port == q.port)))
+is_same_request p q =
+    (p.nonce == q.nonce) && (is_same_xeid p.xeid q.xeid && (is_same_locator p.to q.to && (p.port == q.port)))
 
 -- whether such a request waits
 abbrev pub waits_for : List WaitingRequest → ItrRequest → Bool

@@ -155,8 +155,8 @@ pub data HearsOrTicks (me : Locator) (now : ℕ) (call : resolver.ResolverCall) 
   fails : Wants (moved now w.state) call → new.state ≡ moved now w.state → new.desk ≡ w.desk → calls ≡ []
       → HearsOrTicks me now call w calls new
 
--- The lookup whose last request has this nonce is hastened at a moment. `fails`: a request would be sent, and memory ran
--- out; nothing changes but the time.
+-- The lookup whose last request has this nonce is hastened at a moment. `fails`: a request would be sent, and memory
+-- ran out; nothing changes but the time.
 pub data Hastens (me : Locator) (now nonce : ℕ) (w : Running) (calls : List Call) (new : Running) : Type 0 where
   does : (ticked : Ticked) → HastenStep (moved now w.state) nonce new.state ticked
       → Proceeds me w.desk (progress_of (ToTick ticked)) calls new.desk → Hastens me now nonce w calls new
@@ -167,8 +167,8 @@ pub data Hastens (me : Locator) (now nonce : ℕ) (w : Running) (calls : List Ca
 abbrev pub request_tried : Locator → Pending → Result (Unit {0}) NetFault → Call
 request_tried me l answer = Tried me (server me l) control_port (request_bytes l.nonce l.x me) answer
 
--- The last request of the lookup that has this nonce is sent again. `unknown`: no pending lookup has the nonce. `none`: it
--- is out of memory. `again`: the request is tried, with the same nonce.
+-- The last request of the lookup that has this nonce is sent again. `unknown`: no pending lookup has the nonce. `none`:
+-- it is out of memory. `again`: the request is tried, with the same nonce.
 pub data Resends (me : Locator) (nonce : ℕ) (s : State) (calls : List Call) : Type 0 where
   unknown : IsUnknown s.pending nonce → calls ≡ [] → Resends me nonce s calls
   none : calls ≡ [] → Resends me nonce s calls

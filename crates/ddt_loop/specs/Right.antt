@@ -64,9 +64,9 @@ IsNoReply me (Received at room answer bytes) = Unit {0}
 IsNoReply me (Tried at to port bytes answer) =
     (at ≢ me) ⊎ ((nonce : ℕ) × (x : Xeid) × (bytes ≡ request_bytes nonce x me))
 
--- The ITRs that may be replied to after some calls, by their requests, in any order. `asked`: a request of an ITR has come. `told`:
--- its one reply is tried, the negative Map-Reply for what the register assigns to its identifier. `forgotten`: it gets
--- no reply any more. `other`: a call that tries no reply.
+-- The ITRs that may be replied to after some calls, by their requests, in any order. `asked`: a request of an ITR has
+-- come. `told`: its one reply is tried, the negative Map-Reply for what the register assigns to its identifier.
+-- `forgotten`: it gets no reply any more. `other`: a call that tries no reply.
 pub data Owes (r : Register) (me : Locator) : List Call → List ItrRequest → Type 0 where
   begin : Owes r me [] []
   asked : {calls : List Call} (before after : List ItrRequest) (room : ℕ) (p : Packet) (bytes : List ℕ) (q : ItrRequest)

@@ -30,8 +30,8 @@ abbrev pub heard_of : List ℕ → Option (List ℕ) → List ℕ
 heard_of bytes None = bytes
 heard_of bytes (Some cut) = cut
 
--- A packet is heard so. `other_port`, not from UDP port 4342: as it came. `from_server`: as it came too, but for a reply
--- that reaches beyond its zone, which is cut to it.
+-- A packet is heard so. `other_port`, not from UDP port 4342: as it came. `from_server`: as it came too, but for a
+-- reply that reaches beyond its zone, which is cut to it.
 pub data IsHeardAs (s : State) (p : Packet) (bytes heard : List ℕ) : Type 0 where
   other_port : p.port ≢ control_port → heard ≡ bytes → IsHeardAs s p bytes heard
   from_server : (cut : Option (List ℕ)) → p.port ≡ control_port → IsCut s p.from bytes cut → heard ≡ heard_of bytes cut
@@ -59,7 +59,8 @@ pub record BeginsSound (r : Register) (me : Locator) (s : State) : Type 0 where
 -- that is pending for its identifier. `waited`: time passed. `forgot`: what is remembered of a prefix was forgotten.
 -- `resent`: the last request of a pending lookup was sent again. `passed`: a poll gave no packet, or one that was
 -- dropped. `renewed`: another resolver, that may begin and gives no nonce again, goes on, and nobody waits any more.
-pub data HasRun (may_begin : State → Type 0) (me : Locator) (start : Running) : List Call → List Sharer → Running → Type 0
+pub data HasRun (may_begin : State → Type 0) (me : Locator) (start : Running)
+    : List Call → List Sharer → Running → Type 0
   where
     begins : HasRun may_begin me start [] [] start
     took : {calls : List Call} {sharers : List Sharer} {w : Running} (now room : ℕ) (p : Packet)

@@ -1,5 +1,5 @@
--- The turns of a Map-Server whose sites' ETRs register: it answers by the configuration in force (RFC 8111, sections 7.1
--- and 7.2; RFC 9301, sections 5.6, 5.7 and 8.2).
+-- The turns of a Map-Server whose sites' ETRs register: it answers by the configuration in force (RFC 8111, sections
+-- 7.1 and 7.2; RFC 9301, sections 5.6, 5.7 and 8.2).
 use Rattle.std.specs.Prelude.{ℕ, ◌+◌, ◌≡◌, Bool, true, false, List, [], ◌∷◌, ◌++◌, Option, Some, None, Ok, Err}
 use Rattle.ddt_path.specs.declared.locator.Locator.{Locator}
 use Rattle.ddt_config.specs.Table.{Outline}

@@ -56,8 +56,8 @@ abbrev pub changes_at : Reading → Register → Register → List (List ℕ) �
 changes_at reading r s ps = filter (is_apart reading) (map (change_at r s) ps)
 
 -- The blocks of a register inside a prefix. Each identifier there is covered by one of them (`all`), and by one alone
--- (`one`). A block is a prefix and lies inside that prefix, is the block of each identifier that it covers, and its outcome is the
--- assignment of each. They are in the order of their digits, none overlapping another.
+-- (`one`). A block is a prefix and lies inside that prefix, is the block of each identifier that it covers, and its
+-- outcome is the assignment of each. They are in the order of their digits, none overlapping another.
 pub record AreBlocks (r : Register) (inside : List ℕ) (blocks : List Block) : Type 0 where
   pub all : (x : List ℕ) → IsTrue (is_path x) → IsTrue (covers inside x)
       → (b : Block) × Contains blocks b × IsTrue (covers b.prefix x)
@@ -73,8 +73,8 @@ pub record AreBlocks (r : Register) (inside : List ℕ) (blocks : List Block) : 
 
 -- What changes inside a prefix from one register to another. Each identifier there whose two assignments aren't one is
 -- covered by a change, and by one alone. The two outcomes of a change aren't one, and are the assignments of each
--- identifier that it covers. A change is a prefix inside that prefix, and a block of the keys of both registers. The changes
--- are in the order of their digits, none overlapping another.
+-- identifier that it covers. A change is a prefix inside that prefix, and a block of the keys of both registers. The
+-- changes are in the order of their digits, none overlapping another.
 pub record AreChanges (reading : Reading) (before after : Register) (inside : List ℕ) (changes : List Change)
     : Type 0 where
   pub all : (x : List ℕ) → IsTrue (is_path x) → IsTrue (covers inside x)

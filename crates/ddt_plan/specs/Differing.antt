@@ -50,8 +50,8 @@ abbrev pub is_within : Option (List ℕ) → List ℕ → Bool
 is_within None p = false
 is_within (Some all) p = covers all p
 
--- A prefix strictly below q that covers all zones and sites of two divisions of q, which have the same zone and the same
--- site around q.
+-- A prefix strictly below q that covers all zones and sites of two divisions of q, which have the same zone and the
+-- same site around q.
 pub record IsInner (q : List ℕ) (old new : Division) (inner : List ℕ) : Type 0 where
   pub below : is_strictly_below inner q ≡ true
   pub zone : old.zone ≡ new.zone

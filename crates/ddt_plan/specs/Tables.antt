@@ -33,7 +33,8 @@ put_at which known None = known
 put_at which known (Some v) = Some (with_value which (unwrap_or known no_values) v)
 
 -- a register's values were put to what was there, each by its key
-abbrev pub HasPutRows : {V : Type 0} → Which → (List ℕ → Option V) → BTreeMap (List ℕ) (Pair V) → BTreeMap (List ℕ) (Pair V) → Type 0
+abbrev pub HasPutRows : {V : Type 0} → Which → (List ℕ → Option V) → BTreeMap (List ℕ) (Pair V)
+    → BTreeMap (List ℕ) (Pair V) → Type 0
 HasPutRows which at before after =
     (k : List ℕ) → get (slice_cmp nat_cmp) after k ≡ put_at which (get (slice_cmp nat_cmp) before k) (at k)
 

@@ -1,6 +1,6 @@
 //! What a change of a register changes.
 
-ghost use Rattle.std.specs.Prelude.{◌≡◌, List, IfOk};
+ghost use Rattle.std.specs.Prelude.{◌≡◌, ◌≢◌, List, Err, IfOk};
 ghost use Rattle.ddt_plan.specs.Changes.{AreChanges};
 ghost use Rattle.ddt_plan.specs.Sinks.{HasGiven};
 ghost use Rattle.ddt_plan.specs.declared.change_list.Change.{Change as AChange};
@@ -114,15 +114,16 @@ pub fn changes<S: Sink<Change>>(
 /// Gives a sink the changes that `changes` gives it, from two registers that are sorted already.
 ///
 /// The first change that the sink refuses ends the call, with the sink's refusal in `PlanFault::Refused`; the sink has
-/// taken all changes before that one. Nothing else is refused, and nothing is allocated here.
+/// taken all changes before that one. Nothing else is refused: `PlanFault::Memory` is never the answer.
 pub fn changes_of_sorted<S: Sink<Change>>(
     reading: Reading,
     pair: &SortedPair<'_>,
     inside: Prefix,
     sink: &mut S,
 ) -> Result<(), PlanFault<S::Refusal>>
-    ensures { (all : List AChange) × AreChanges reading pair.now.before pair.now.after inside all
+    ensures given { (all : List AChange) × AreChanges reading pair.now.before pair.now.after inside all
         × HasGiven S.takes sink.old all result sink.new }
+    ensures own { result ≢ Err PlanFault.Memory }
 {
     let (before, after) = (pair.before, pair.after);
     let sides = Sides {

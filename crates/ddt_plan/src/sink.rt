@@ -1,6 +1,6 @@
 //! Sinks, which take blocks and changes one after the other, and may refuse one.
 
-ghost use Rattle.std.specs.Prelude.{◌≡◌, ◌++◌, ◌∷◌, [], MatchResult};
+ghost use Rattle.std.specs.Prelude.{◌≡◌, ◌≢◌, ◌++◌, ◌∷◌, [], Err, MatchResult};
 ghost use Rattle.ddt_plan.specs.Sinks.{HasGiven};
 
 use std::alloc::AllocError;
@@ -42,9 +42,10 @@ pub enum PlanFault<R> {
     Refused(R),
 }
 
-/// Gives one item to a sink.
+/// Gives one item to a sink. Only the sink refuses: `PlanFault::Memory` is never the answer.
 pub fn give<T, S: Sink<T>>(sink: &mut S, item: T) -> Result<(), PlanFault<S::Refusal>>
-    ensures { HasGiven S.takes sink.old (item ∷ []) result sink.new }
+    ensures given { HasGiven S.takes sink.old (item ∷ []) result sink.new }
+    ensures own { result ≢ Err PlanFault.Memory }
 {
     match sink.give(item) {
         Ok(()) => Ok(()),

@@ -1,6 +1,6 @@
 //! A walk down the digits of prefixes, from one half to the next, that gives a sink the blocks or the changes.
 
-ghost use Rattle.std.specs.Prelude.{◌≡◌, ◌-◌, ◌++◌, ◌∷◌, [], map, length, IsTrue};
+ghost use Rattle.std.specs.Prelude.{◌≡◌, ◌≢◌, ◌-◌, ◌++◌, ◌∷◌, [], map, length, Err, IsTrue};
 ghost use Rattle.std.specs.List.{filter};
 ghost use Rattle.ddt_plan.specs.Blocks.{keys_of, pieces};
 ghost use Rattle.ddt_plan.specs.Changes.{block_at, changes_at, is_apart};
@@ -46,7 +46,8 @@ pub fn walk<S: Sink<Block>>(
     }
 }
 
-/// Gives what changes inside a prefix from one register to another. It goes 161 calls deep at most.
+/// Gives what changes inside a prefix from one register to another. It goes 161 calls deep at most. Only the sink
+/// refuses.
 pub fn walk_both<S: Sink<Change>>(
     reading: Reading,
     before: &Accepted,
@@ -56,8 +57,9 @@ pub fn walk_both<S: Sink<Change>>(
     sink: &mut S,
 ) -> Result<(), PlanFault<S::Refusal>>
     requires { AreSides before.now after.now whole sides.now }
-    ensures { HasGiven S.takes sink.old (changes_at reading before.now after.now
+    ensures given { HasGiven S.takes sink.old (changes_at reading before.now after.now
         (pieces (161 - length whole) (keys_of before.now ++ keys_of after.now) whole)) result sink.new }
+    ensures own { result ≢ Err PlanFault.Memory }
 {
     match both_settled(sides) {
         Some((earlier, later)) => give_if_apart(reading, whole, earlier, later, sink),
@@ -102,7 +104,7 @@ fn both_settled(sides: &Sides<'_>) -> Option<(Outcome, Outcome)>
     }
 }
 
-/// Gives a change, if it is one.
+/// Gives a change, if it is one. Only the sink refuses.
 fn give_if_apart<S: Sink<Change>>(
     reading: Reading,
     prefix: Prefix,
@@ -110,8 +112,9 @@ fn give_if_apart<S: Sink<Change>>(
     after: Outcome,
     sink: &mut S,
 ) -> Result<(), PlanFault<S::Refusal>>
-    ensures { HasGiven S.takes sink.old
+    ensures given { HasGiven S.takes sink.old
         (filter (is_apart reading) (record { prefix = prefix; before = before; after = after } ∷ [])) result sink.new }
+    ensures own { result ≢ Err PlanFault.Memory }
 {
     if is_same_outcome(reading, &before, &after) {
         return Ok(());

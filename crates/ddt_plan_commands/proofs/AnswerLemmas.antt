@@ -62,11 +62,7 @@ lines_stop (plan.Refused line.Memory) = tt
 lines_stop (plan.Refused line.Unprinted) = tt
 
 module _ (reading : Reading) (pair : BothRegisters) (r s : Register) (is : pair ≡ record { before = r; after = s }) where
-  -- what differs between the registers of a pair differs between those that it was made from
-  pub review_of : (v : Review) → IsReview reading pair.before pair.after v → IsReview reading r s v
-  review_of v found = subst (λ (b : BothRegisters). IsReview reading b.before b.after v) is found
-
-  -- the same of all changes, at the prefix that covers everything
+  -- all changes of a pair, at the prefix that covers everything, are those of the registers that it was made from
   pub changes_of : (p : List ℕ) (all : List Change) → p ≡ [] → AreChanges reading pair.before pair.after p all → AreChanges reading r s [] all
   changes_of p all whole are =
       subst (λ (b : BothRegisters). AreChanges reading b.before b.after [] all) is

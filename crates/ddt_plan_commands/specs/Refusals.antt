@@ -107,7 +107,8 @@ IsToldAs why line = IsLineOf why line ⊎ (line ≡ ended (codes "out of memory"
 
 -- a line that tells such a refusal was appended
 abbrev pub HasRefused : (PlanRefusal → Type 0) → Option (List ℕ) → Option (List ℕ) → Type 0
-HasRefused is_why old new = (why : PlanRefusal) × is_why why × ((line : List ℕ) × IsToldAs why line × Appends old new line)
+HasRefused is_why old new =
+    (why : PlanRefusal) × is_why why × ((line : List ℕ) × IsToldAs why line × Appends old new line)
 
 -- a front of such a line was appended
 abbrev pub HasRefusedFront : (PlanRefusal → Type 0) → Option (List ℕ) → Option (List ℕ) → Type 0

@@ -25,4 +25,5 @@ TakesBlock contents before block answer after =
 abbrev pub TakesChange : {W : Type 0} → (W → Option (List ℕ)) → ChangeLines W → Change → Result (Unit {0}) LineFault
     → ChangeLines W → Type 0
 TakesChange contents before change answer after =
-    (after.form ≡ before.form) × Prints answer (contents before.out) (contents after.out) (written_change before.form change)
+    (after.form ≡ before.form)
+    × Prints answer (contents before.out) (contents after.out) (written_change before.form change)

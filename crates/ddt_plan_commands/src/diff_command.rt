@@ -23,8 +23,7 @@ use crate::summary::written_summary;
 use ddt_check::Accepted;
 use ddt_lines::print;
 use ddt_plan::{
-    ChangeCounts, GroupChange, OutcomeCounts, Reading, SortedPair, changes, changes_of_sorted,
-    group_changes,
+    ChangeCounts, GroupChange, OutcomeCounts, Reading, changes, changes_of_sorted, group_changes,
 };
 use std::alloc::Global;
 use std::io::{Read, Write};
@@ -153,8 +152,7 @@ fn summarize<W: Write>(
         (W.contents out.old) (W.contents out.new) }
     ensures refused { IfErr result (IsWhyUnwritten false) }
 {
-    let pair = SortedPair::of(alloc, before, after)?;
-    let found = compare(alloc, reading, &pair)?;
+    let (found, _pair) = compare(alloc, reading, before, after)?;
     print(&written_summary(alloc, form, &found)?, out)?;
     Ok(is_different(&found))
 }
@@ -176,11 +174,11 @@ fn list_changes<W: Write + Drop>(
         (W.contents lines.old.out) (W.contents lines.new.out) }
     ensures refused { IfErr result (IsWhyUnwritten false) }
 {
-    let pair = SortedPair::of(alloc, before, after)?;
-    let found = compare(alloc, reading, &pair)?;
+    let (found, pair) = compare(alloc, reading, before, after)?;
     let form = lines.form;
     print(&heading(alloc, form, &found)?, &mut lines.out)?;
     changes_of_sorted(reading, &pair, everything(), lines)?;
+    drop(pair);
     print(&ending(alloc, form, &found)?, &mut lines.out)?;
     Ok(is_different(&found))
 }

@@ -7,6 +7,7 @@ ghost use Rattle.ddt_plan_commands.specs.Review.{IsReview, has_items as has_item
 use crate::command_error::CommandError;
 use crate::effects::Effects;
 use crate::referrals::has_outdated;
+use ddt_check::Accepted;
 use ddt_path::{Locator, Prefix, Xeid};
 use ddt_plan::{
     GroupChange, ItemChanges, Reading, SortedPair, changes_of_sorted, group_changes, item_changes,
@@ -26,27 +27,31 @@ pub struct Review {
     pub outdated: bool,
 }
 
-/// Finds the differences between two registers.
-pub(crate) fn compare(
+/// Finds the differences between two registers, and sorts the two, for whoever wants each change after it. They are
+/// sorted last: what compares the groups, the items and the referrals has room of its own, and is done with it by then.
+pub(crate) fn compare<'a>(
     alloc: Global,
     reading: Reading,
-    pair: &SortedPair<'_>,
-) -> Result<Review, CommandError<'static>>
-    ensures found { IfOk result (IsReview reading pair.now.before pair.now.after) }
+    before: &'a Accepted,
+    after: &'a Accepted,
+) -> Result<(Review, SortedPair<'a>), CommandError<'static>>
+    ensures found { IfOk result (λ found. IsReview reading before.now after.now found.0) }
+    ensures sorted { IfOk result (λ found. found.1 ≡ record { before = before.now; after = after.now }) }
     ensures refused { IfErr result (IsWhyUnwritten false) }
 {
-    let (before, after) = (pair.before(), pair.after());
     let groups = group_changes(alloc, before, after)?;
     let items = item_changes(alloc, before, after)?;
     let outdated = has_outdated(alloc, before, after)?;
+    let pair = SortedPair::of(alloc, before, after)?;
     let mut effects = Effects::default();
-    changes_of_sorted(reading, pair, everything(), &mut effects)?;
-    Ok(Review {
+    changes_of_sorted(reading, &pair, everything(), &mut effects)?;
+    let found = Review {
         effects,
         groups,
         items,
         outdated,
-    })
+    };
+    Ok((found, pair))
 }
 
 /// Returns whether anything differs.

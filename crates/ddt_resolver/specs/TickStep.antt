@@ -23,14 +23,15 @@ HasTry l = (l.is_retry ≡ false) ⊎ (l.server_index + 1 < length l.servers)
 
 -- How a pending lookup goes on or ends without a reply. The five cases. `again`: the same server gets a second request.
 -- `next_place`: after the second the next server gets a first. `answered`: no server is left, and one of the set has
--- said that the site isn't registered. `no_reply`: none has. `used_up`: it has another try, but no nonce is left. Nothing
--- is saved.
+-- said that the site isn't registered. `no_reply`: none has. `used_up`: it has another try, but no nonce is left.
+-- Nothing is saved.
 pub data GoOn (s : State) (t : ℕ) (l : Pending) (new : State) (ticked : Ticked) : Type 0 where
   again : l.is_retry ≡ false → s.next < last_nonce
       → new ≡ request_sent s t (tried_again l) → ticked ≡ Sent t (request s (tried_again l)) → GoOn s t l new ticked
   next_place : l.is_retry ≡ true → l.server_index + 1 < length l.servers → s.next < last_nonce
       → new ≡ request_sent s t (at_next l) → ticked ≡ Sent t (request s (at_next l)) → GoOn s t l new ticked
-  answered : (rec : ReferralRecord) → l.is_retry ≡ true → length l.servers ≤ l.server_index + 1 → l.last_not_registered ≡ Some rec
+  answered : (rec : ReferralRecord) → l.is_retry ≡ true → length l.servers ≤ l.server_index + 1
+      → l.last_not_registered ≡ Some rec
       → new ≡ dropped s t → ticked ≡ Answer t (NotRegistered rec.prefix rec.servers) → GoOn s t l new ticked
   no_reply : l.is_retry ≡ true → length l.servers ≤ l.server_index + 1 → l.last_not_registered ≡ None
       → new ≡ dropped s t → ticked ≡ GaveUp t NoReply → GoOn s t l new ticked

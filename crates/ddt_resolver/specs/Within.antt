@@ -47,5 +47,6 @@ pub data IsCut (s : State) (source : Locator) (bytes : List ℕ) (heard : Option
   whole : ((l : Pending) (rec : ReferralRecord) (zone : List ℕ) → IsWide s source bytes l rec zone → ⊥) → heard ≡ None
       → IsCut s source bytes heard
   cut : (l : Pending) (rec : ReferralRecord) (zone : List ℕ) → IsWide s source bytes l rec zone
-      → heard ≡ Some (written l.nonce (cut_to zone rec)) → Spells (written l.nonce (cut_to zone rec)) (message_of l.nonce (cut_to zone rec))
+      → heard ≡ Some (written l.nonce (cut_to zone rec))
+      → Spells (written l.nonce (cut_to zone rec)) (message_of l.nonce (cut_to zone rec))
       → IsCut s source bytes heard

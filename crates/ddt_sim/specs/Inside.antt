@@ -33,7 +33,8 @@ IsInside (Some p) q = IsTrue (covers p q)
 -- the MS-ACK of a site, with the servers of its zone.
 pub data IsTrueStart (r : Register) (servers : List Locator) (p : List ℕ) : Type 0 where
   zone : (z : Zone) → Contains r.zones z → z.prefix ≡ p → servers ≡ locators_of r z.group → IsTrueStart r servers p
-  site : (s : Site) (z : Zone) → Contains r.sites s → s.prefix ≡ p → zone_of r p ≡ Some z → servers ≡ locators_of r z.group
+  site : (s : Site) (z : Zone) → Contains r.sites s → s.prefix ≡ p → zone_of r p ≡ Some z
+      → servers ≡ locators_of r z.group
       → IsTrueStart r servers p
 
 -- each pending lookup that has followed no referral since it started asks the servers of a true start
@@ -61,7 +62,8 @@ CutNegativesHold =
 
 -- a new resolver has no lookup
 abbrev pub NewStartsAreTrue : Type 0
-NewStartsAreTrue = (r : Register) (roots_ : List Locator) (me : Locator) (seed : ℕ) → StartsAreTrue r (fresh roots_ me seed)
+NewStartsAreTrue =
+    (r : Register) (roots_ : List Locator) (me : Locator) (seed : ℕ) → StartsAreTrue r (fresh roots_ me seed)
 
 -- In a sound state a step, whatever it hears, keeps starts true.
 abbrev pub StepsKeepStarts : Type 0

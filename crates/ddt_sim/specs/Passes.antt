@@ -47,7 +47,8 @@ pub record HasShortPasses (x : Xeid) (hops : List Hop) : Type 0 where
 -- same or a longer one. `second_pass`: its second pass begins. There is no third.
 pub data PassGoesOn (l new : Pending) : Type 0 where
   same_pass : new.restarted ≡ l.restarted
-      → (new.last_referral ≡ l.last_referral) ⊎ ((p : List ℕ) × (new.last_referral ≡ Some p) × IsBelow l.last_referral p) → PassGoesOn l new
+      → (new.last_referral ≡ l.last_referral)
+      ⊎ ((p : List ℕ) × (new.last_referral ≡ Some p) × IsBelow l.last_referral p) → PassGoesOn l new
   second_pass : l.restarted ≡ false → new.restarted ≡ true → PassGoesOn l new
 
 -- So it is in each step of a resolver, whatever comes, in whichever order: late, twice, among other lookups and ticks.

@@ -125,13 +125,15 @@ IsRight r s call reply = Unit {0}
 abbrev pub StepsKeepSoundness : Type 0
 StepsKeepSoundness =
     (r : Register) (s : State) (call : ResolverCall) (new : State) (reply : Reply)
-    → IsAccepted r → IsStateInOrder s → IsSound r s → IsFair r s call → Step s call new reply → IsSound r new × IsRight r s call reply
+    → IsAccepted r → IsStateInOrder s → IsSound r s → IsFair r s call → Step s call new reply
+    → IsSound r new × IsRight r s call reply
 
 -- So does a lookup that is hastened, whether its deadline has come or not, and what comes of it is right.
 abbrev pub HasteningKeepsSoundness : Type 0
 HasteningKeepsSoundness =
     (r : Register) (s : State) (nonce : ℕ) (new : State) (ticked : Ticked)
-    → IsAccepted r → IsStateInOrder s → IsSound r s → HastenStep s nonce new ticked → IsSound r new × IsRightTicked r s ticked
+    → IsAccepted r → IsStateInOrder s → IsSound r s → HastenStep s nonce new ticked
+    → IsSound r new × IsRightTicked r s ticked
 
 -- so does the passing of time
 abbrev pub TimeKeepsSoundness : Type 0

@@ -159,8 +159,8 @@ abbrev pub later : ℕ → ℕ → ℕ
 later moment millis = min (moment + millis) last_moment
 
 -- The step. `resolves`: the resolver is asked, hears a reply, or ticks. `serves`: a request is handed to the servers in
--- force. `not_sent`: no datagram has this number yet. `passes`: the moment moves, and the resolver's time follows at its
--- next call. `replaces`: other servers come into force. `no_member`: no servers have this number.
+-- force. `not_sent`: no datagram has this number yet. `passes`: the moment moves, and the resolver's time follows at
+-- its next call. `replaces`: other servers come into force. `no_member`: no servers have this number.
 pub data WorldStep (servers : Members) (w : World) (step : Step) (event : Event) (new : World) : Type 0 where
   resolves : Resolves w step event new → WorldStep servers w step event new
   serves : (k : ℕ) (more : List Datagram) → step ≡ Deliver k

@@ -8,7 +8,7 @@ use std::alloc::{AllocError, Global};
 use std::{fmt, str};
 use toml::de;
 
-/// The place of a table in words, each part with its number, before what is said of the table; nothing for the top table.
+/// The place of a table in words, each part with its number, and a colon; nothing for the top table.
 #[derive(Clone, Copy)]
 struct Before(Place);
 
@@ -29,10 +29,7 @@ pub fn fault_text(alloc: Global, placed: &PlacedFault) -> Result<String, AllocEr
     match fault {
         ConfigFault::Toml => format!(in alloc; "{fault}"),
         ConfigFault::Field(key) => {
-            format!(in alloc;
-                "{fault}: {table}{} is missing, or its value is of another kind",
-                key.text()
-            )
+            format!(in alloc; "{fault}: {table}{} {}", key.text(), wrong_kind_text(key))
         }
         ConfigFault::Value(key) => {
             let verb = match key {
@@ -47,6 +44,15 @@ pub fn fault_text(alloc: Global, placed: &PlacedFault) -> Result<String, AllocEr
         }
         ConfigFault::Shape => format!(in alloc; "{fault}: no server has such a configuration"),
         ConfigFault::Memory => format!(in alloc; "{fault}: out of memory"),
+    }
+}
+
+/// What is wrong with a key that is missing, or whose value is of another kind. An array of tables may be missing.
+fn wrong_kind_text(key: Key) -> &'static str {
+    match key {
+        Key::Name | Key::Kind | Key::Prefix => "is missing, or no text",
+        Key::Locators | Key::Etrs => "is missing, or no array of texts",
+        Key::Authority | Key::Child | Key::Site => "is no array of tables",
     }
 }
 

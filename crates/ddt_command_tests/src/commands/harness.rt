@@ -12,7 +12,7 @@ use ddt_loop::{Clock, FixedClock};
 use ddt_path::{Listed, Locator};
 use ddt_sockets::{WaitingDatagram, WiresInMemory};
 use std::alloc::Global;
-use std::io::{ErrorKind, Read, Write};
+use std::io::{ErrorKind, Read};
 use std::process::Abort;
 use std::test::Fail;
 use std::{io, mem};
@@ -105,55 +105,6 @@ pub fn at_start() -> FixedClock {
     }
 }
 
-/// Runs `ddt` with these words at a place, over these wires, this clock and these writers.
-pub fn run_at<C: Clock + Drop, W: Write, E: Write>(
-    alloc: Global,
-    place: Place<'_>,
-    wires: &mut WiresInMemory,
-    clock: C,
-    words: &[&str],
-    out: &mut W,
-    err: &mut E,
-) -> Result<Status, Fail> {
-    let all = process(alloc, words)?;
-    let open_file = |path: &str| place.open(path);
-    let bind = |_wires: &mut WiresInMemory, at: Locator| place.bind(at);
-    Ok(run_in(alloc, &all, open_file, wires, clock, bind, out, err))
-}
-
-/// Runs `ddt` in the environment of these parts, and leaves the wires to the caller.
-fn run_in<F, O, C, B, W, E>(
-    alloc: Global,
-    words: &[String],
-    open_file: O,
-    wires: &mut WiresInMemory,
-    clock: C,
-    bind: B,
-    out: &mut W,
-    err: &mut E,
-) -> Status
-where
-    F: Read + Drop,
-    O: Fn(&str) -> Option<F> + Drop,
-    C: Clock + Drop,
-    B: Fn(&mut WiresInMemory, Locator) -> io::Result<()> + Drop,
-    W: Write,
-    E: Write,
-    requires opens { O.IsAlwaysCallable open_file }
-    requires binds { B.IsAlwaysCallable bind }
-{
-    let mut environment = Environment {
-        open_file,
-        wires: WiresInMemory::new(alloc, 0),
-        clock,
-        bind,
-    };
-    mem::swap(wires, &mut environment.wires);
-    let status = run(alloc, words, &mut environment, out, err);
-    mem::swap(wires, &mut environment.wires);
-    status
-}
-
 /// What a command prints on each stream.
 #[derive(Drop)]
 pub struct Printed {
@@ -181,15 +132,40 @@ impl Printed {
         clock: C,
         words: &[&str],
     ) -> Result<Status, Fail> {
-        run_at(
-            alloc,
-            place,
-            wires,
+        let all = process(alloc, words)?;
+        let open_file = |path: &str| place.open(path);
+        let bind = |_wires: &mut WiresInMemory, at: Locator| place.bind(at);
+        Ok(self.run_in(&all, open_file, wires, clock, bind))
+    }
+
+    /// Runs `ddt` in the environment of these parts, and leaves the wires to the caller.
+    fn run_in<F, O, C, B>(
+        &mut self,
+        words: &[String],
+        open_file: O,
+        wires: &mut WiresInMemory,
+        clock: C,
+        bind: B,
+    ) -> Status
+    where
+        F: Read + Drop,
+        O: Fn(&str) -> Option<F> + Drop,
+        C: Clock + Drop,
+        B: Fn(&mut WiresInMemory, Locator) -> io::Result<()> + Drop,
+        requires opens { O.IsAlwaysCallable open_file }
+        requires binds { B.IsAlwaysCallable bind }
+    {
+        let alloc = *self.out.allocator();
+        let mut environment = Environment {
+            open_file,
+            wires: WiresInMemory::new(alloc, 0),
             clock,
-            words,
-            &mut self.out,
-            &mut self.err,
-        )
+            bind,
+        };
+        mem::swap(wires, &mut environment.wires);
+        let status = run(alloc, words, &mut environment, &mut self.out, &mut self.err);
+        mem::swap(wires, &mut environment.wires);
+        status
     }
 }
 

@@ -1,5 +1,5 @@
--- Which TOML table stands for which settings. The table's form is this project's own. The keys are examined in the order
--- `roots`, `listen`, `allow`, the values of each from first to last, and the first fault decides.
+-- Which TOML table stands for which settings. The table's form is this project's own. The keys are examined in the
+-- order `roots`, `listen`, `allow`, the values of each from first to last, and the first fault decides.
 use Rattle.std.specs.Prelude.{◌==◌, nat_le, ℕ, Bool, if◌then◌else◌, codes, List, [], ◌∷◌, length, Option, None, Some, Result, Ok, Err}
 use Rattle.std.specs.List.{list_any}
 use Rattle.std.specs.Option.{option_map}

@@ -13,8 +13,8 @@ use Rattle.ddt_organisations.specs.declared.seam.runs_by_group.GroupRun.{GroupRu
 abbrev pub is_run_from : Register → Register → Group → Bool
 is_run_from side joined g = not (is_some (change_of_group side joined g.name))
 
--- a group of the joined register, and from where its servers can be run; `foreign` has the names of those that the other
--- side runs
+-- a group of the joined register, and from where its servers can be run; `foreign` has the names of those that the
+-- other side runs
 abbrev pub run_of : (List ℕ → Bool) → Register → Register → Register → Group → GroupRun
 run_of foreign ours theirs joined g = record {
   group = g.name;

@@ -27,7 +27,8 @@ TellsBroken finds lists told = (register : Register) × (lists_of register ≡ l
 
 -- What is told of a file, by what its records spell. Of a register its broken rules are told, and of a file that spells
 -- none at least one fault.
-abbrev pub ReportsFaults : (Register → Result (Vec BrokenRule) AllocError → Type 0) → Result Lists ReadFault → List FaultKind → Type 0
+abbrev pub ReportsFaults : (Register → Result (Vec BrokenRule) AllocError → Type 0) → Result Lists ReadFault
+    → List FaultKind → Type 0
 ReportsFaults finds (Ok lists) told = TellsBroken finds lists told
 ReportsFaults finds (Err fault) told = 0 < length told
 

@@ -26,7 +26,7 @@ abbrev pub zoneless_site : Register → (List ℕ → Bool) → (ℕ → Bool) �
 zoneless_site before is_kept is_asked s = option_and_then
     (λ z. if is_asked s.row then Some (record { row = s.row; zone = z.prefix }) else None) (lost_zone before is_kept s.prefix)
 
--- The sites of a register in the rows that are asked for whose zone in an earlier register was one of Map-Servers, where
--- the register has no zone of that prefix.
+-- The sites of a register in the rows that are asked for whose zone in an earlier register was one of Map-Servers,
+-- where the register has no zone of that prefix.
 abbrev pub zoneless : Register → Register → (ℕ → Bool) → List ZonelessSite
 zoneless before after is_asked = filter_map (zoneless_site before (has_zone after.zones) is_asked) after.sites

@@ -103,7 +103,8 @@ is_host r name =
 
 -- the one zone that a group delegates to another, where each has more than one such zone with a third
 abbrev pub is_stranger : Register → List ℕ × List ℕ → Bool
-is_stranger r pair = not (is_same_name pair.0 pair.1) && (not (is_usual r pair) && (is_host r pair.0 && is_guest r pair.1))
+is_stranger r pair =
+    not (is_same_name pair.0 pair.1) && (not (is_usual r pair) && (is_host r pair.0 && is_guest r pair.1))
 
 -- a zone of a group that serves none of those beside it, which are delegated by the same group
 abbrev pub is_strange : Register → Zone → Bool

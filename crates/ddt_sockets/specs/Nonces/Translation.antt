@@ -47,9 +47,9 @@ IsStrange at old p nonce = (p.port ≢ control_port) ⊎ All (λ s. is_reply_to 
 -- One call, beside the calls of the wires below. `asks`: a request of a DDT client to UDP port 4342 goes out with a
 -- nonce that no outstanding request has, and with the socket's locator as its ITR-RLOC. `unsent`: it isn't sent, if
 -- out of memory, if the nonce is in use, or where its server is passed over. `passes`: any other datagram goes out as
--- it is. `none`, `failed`: nothing came. `gives`: what isn't of the type of Map-Referrals is given as it came. `lifts`: the reply to an
--- outstanding request is given with its caller's nonce, and the request isn't outstanding any more. `drops`: any other
--- of that type is lost (RFC 8111, section 5; RFC 9301, section 5.2).
+-- it is. `none`, `failed`: nothing came. `gives`: what isn't of the type of Map-Referrals is given as it came. `lifts`:
+-- the reply to an outstanding request is given with its caller's nonce, and the request isn't outstanding any more.
+-- `drops`: any other of that type is lost (RFC 8111, section 5; RFC 9301, section 5.2).
 pub data IsTranslated (old : List Request) : Call → List Call → List Request → Type 0 where
   asks : (at to : Locator) (bytes : List ℕ) (plain wire : ℕ) (x : Xeid) (answer : Result (Unit {0}) NetFault)
       → IsAsked bytes plain x → All (λ s. s.wire ≢ wire) old

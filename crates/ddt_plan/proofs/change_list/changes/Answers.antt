@@ -8,7 +8,7 @@ use Rattle.ddt_plan.proofs.change_list.changes.Goals as goal
 
 pub returns-in-Ok : goal.returns-in-Ok
 returns-in-Ok g c =
-    let given = c.changes_of_sorted.ensures in (
+    let given = c.changes_of_sorted.ensures.given in (
       given.0,
       subst (λ (p : BothRegisters). AreChanges c.args.reading p.before p.after c.args.inside given.0) c.in-Ok.ensures given.1,
       given.2,

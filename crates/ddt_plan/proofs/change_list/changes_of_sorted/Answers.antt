@@ -8,14 +8,14 @@ use Rattle.ddt_plan.proofs.AgreeLemmas.{narrowed}
 use Rattle.ddt_plan.proofs.ListingLemmas.{are_changes}
 use Rattle.ddt_plan.proofs.change_list.changes_of_sorted.Goals as goal
 
-pub returns : goal.returns
-returns g c =
+pub returns-clause-given : goal.returns-clause-given
+returns-clause-given g c =
     let r = c.pair.inside.before.now in
     let s = c.pair.inside.after.now in
     rw (← c.pair.view_is) (
       changes_at c.args.reading r s (pieces (161 - length c.args.inside) (keys_of r ++ keys_of s) c.args.inside),
       are_changes c.args.reading r s c.args.inside,
-      c.walk_both.ensures,
+      c.walk_both.ensures.given,
     )
 
 pub items_below-requires : goal.items_below-requires

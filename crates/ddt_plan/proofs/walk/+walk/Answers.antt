@@ -42,7 +42,7 @@ pub returns-in-Settled : goal.returns-in-Settled
 returns-in-Settled g t c =
     let r = c.args.accepted.now in
     subst (λ (blocks : List Block). HasGiven g.S.Sink.takes c.args.sink.now blocks c.give.result c.give.new.sink)
-    (one_block r c.args.whole c.in-Settled.outcome (is_settled r c.args.whole c.args.side.now c.in-Settled.outcome c.requires c.in-Settled.is)) c.give.ensures
+    (one_block r c.args.whole c.in-Settled.outcome (is_settled r c.args.whole c.args.side.now c.in-Settled.outcome c.requires c.in-Settled.is)) c.give.ensures.given
 
 pub returns-in_err-walk-in-Divided : goal.returns-in_err-walk-in-Divided
 returns-in_err-walk-in-Divided g t c =

@@ -58,28 +58,28 @@ walk_both-requires-in-None-2 g t c κs within =
     let less : 161 - length c.half-upper.result < 161 - length c.args.whole = omega (arith, room, longer) in
     search rules
 
-pub returns-in-Some : goal.returns-in-Some
-returns-in-Some g t c =
+pub returns-in-Some-clause-given : goal.returns-in-Some-clause-given
+returns-in-Some-clause-given g t c =
     let r = c.args.before.now in
     let s = c.args.after.now in
     subst (λ (changes : List Change). HasGiven g.S.Sink.takes c.args.sink.now changes c.give_if_apart.result c.give_if_apart.new.sink)
-    (one_change c.args.reading r s c.args.whole c.in-Some.earlier c.in-Some.later c.args.sides.now c.requires (sym c.both_settled.ensures ∙ c.in-Some.is)) c.give_if_apart.ensures
+    (one_change c.args.reading r s c.args.whole c.in-Some.earlier c.in-Some.later c.args.sides.now c.requires (sym c.both_settled.ensures ∙ c.in-Some.is)) c.give_if_apart.ensures.given
 
-pub returns-in_err-walk_both-in-None : goal.returns-in_err-walk_both-in-None
-returns-in_err-walk_both-in-None g t c =
+pub returns-in_err-walk_both-in-None-clause-given : goal.returns-in_err-walk_both-in-None-clause-given
+returns-in_err-walk_both-in-None-clause-given g t c =
     let r = c.args.before.now in
     let s = c.args.after.now in
     let d = sides_divided r s c.args.whole c.args.sides.now c.requires (sym c.both_settled.ensures ∙ c.in-None.is) in
     let e : c.from_residual.result ≡ Err c.in_err-walk_both-in-None.field-0.0 = search rules in
     first_given g.S.Sink.takes (changes_at c.args.reading r s) (changes_split c.args.reading r s) (keys_of r ++ keys_of s) c.args.whole c.half-lower.result d
     (keys_go_on (keys_of r ++ keys_of s) (both_are_paths r s) c.args.whole d).1 c.half-lower.ensures
-    c.args.sink.now c.walk_both-in-None.new.sink c.in_err-walk_both-in-None.field-0.0 c.from_residual.result e c.in_err-walk_both-in-None.ensures
+    c.args.sink.now c.walk_both-in-None.new.sink c.in_err-walk_both-in-None.field-0.0 c.from_residual.result e c.in_err-walk_both-in-None.ensures.given
 
-pub returns-in_ok-walk_both-in-None : goal.returns-in_ok-walk_both-in-None
-returns-in_ok-walk_both-in-None g t c =
+pub returns-in_ok-walk_both-in-None-clause-given : goal.returns-in_ok-walk_both-in-None-clause-given
+returns-in_ok-walk_both-in-None-clause-given g t c =
     let r = c.args.before.now in
     let s = c.args.after.now in
     let d = sides_divided r s c.args.whole c.args.sides.now c.requires (sym c.both_settled.ensures ∙ c.in-None.is) in
     both_given g.S.Sink.takes (changes_at c.args.reading r s) (changes_split c.args.reading r s) (keys_of r ++ keys_of s) c.args.whole c.half-lower.result c.half-upper.result d
     (keys_go_on (keys_of r ++ keys_of s) (both_are_paths r s) c.args.whole d).1 c.half-lower.ensures c.half-upper.ensures
-    c.args.sink.now c.walk_both-in-None.new.sink c.walk_both-in-None-2.new.sink c.walk_both-in-None-2.result c.in_ok-walk_both-in-None.ensures c.walk_both-in-None-2.ensures
+    c.args.sink.now c.walk_both-in-None.new.sink c.walk_both-in-None-2.new.sink c.walk_both-in-None-2.result c.in_ok-walk_both-in-None.ensures.given c.walk_both-in-None-2.ensures.given

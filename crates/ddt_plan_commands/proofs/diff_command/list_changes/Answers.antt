@@ -6,7 +6,7 @@ use Rattle.std.specs.Io.KnownBytes.{Appends}
 use Rattle.ddt_plan_commands.specs.Ending.{written_ending, written_heading}
 use Rattle.ddt_plan_commands.specs.Review.{is_different}
 use Rattle.ddt_plan_commands.specs.Written.{written_change}
-use Rattle.ddt_plan_commands.proofs.AnswerLemmas.{changes_of, lines_stop, review_of}
+use Rattle.ddt_plan_commands.proofs.AnswerLemmas.{changes_of, lines_stop}
 use Rattle.ddt_plan_commands.proofs.SinkLemmas.{change_writer}
 use Rattle.ddt_plan_commands.proofs.WriterLemmas.{appends_both, front_after, front_before, front_behind, given_front, taken_text, text_front, whole_front}
 use Rattle.ddt_plan_commands.proofs.diff_command.list_changes.Goals as goal
@@ -15,7 +15,7 @@ pub returns-in_err-print-clause-front : goal.returns-in_err-print-clause-front
 returns-in_err-print-clause-front g c =
     let lines = c.args.lines.now in
     let v = c.in_ok-found.found in
-    let is = review_of c.args.reading c.in_ok-pair.pair c.args.before.now c.args.after.now c.in_ok-pair.ensures v c.in_ok-found.ensures.found in
+    let is = c.in_ok-found.ensures.found in
     let all = is.effects in
     inr (
       _,
@@ -28,14 +28,14 @@ pub returns-in_err-changes_of_sorted-clause-front : goal.returns-in_err-changes_
 returns-in_err-changes_of_sorted-clause-front g c =
     let lines = c.args.lines.now in
     let v = c.in_ok-found.found in
-    let is = review_of c.args.reading c.in_ok-pair.pair c.args.before.now c.args.after.now c.in_ok-pair.ensures v c.in_ok-found.ensures.found in
-    let given = c.in_err-changes_of_sorted.ensures in
+    let is = c.in_ok-found.ensures.found in
+    let given = c.in_err-changes_of_sorted.ensures.given in
     let all = given.0 in
     inr (
       _,
       (
         is_different v,
-        (v, is, refl, (all, changes_of c.args.reading c.in_ok-pair.pair c.args.before.now c.args.after.now c.in_ok-pair.ensures _ all c.everything.ensures given.1, refl)),
+        (v, is, refl, (all, changes_of c.args.reading c.in_ok-found.pair c.args.before.now c.args.after.now c.in_ok-found.ensures.sorted _ all c.everything.ensures given.1, refl)),
       ),
       front_behind _ _ _ (written_heading lines.form v) (flat_map (written_change lines.form) all) (written_ending lines.form v)
           (subst (Appends _ _) (c.deref.ensures.value ∙ c.in_ok-heading.ensures) c.in_ok-print.ensures.whole)
@@ -50,14 +50,14 @@ pub returns-in_err-ending-clause-front : goal.returns-in_err-ending-clause-front
 returns-in_err-ending-clause-front g c =
     let lines = c.args.lines.now in
     let v = c.in_ok-found.found in
-    let is = review_of c.args.reading c.in_ok-pair.pair c.args.before.now c.args.after.now c.in_ok-pair.ensures v c.in_ok-found.ensures.found in
-    let given = c.in_ok-changes_of_sorted.ensures in
+    let is = c.in_ok-found.ensures.found in
+    let given = c.in_ok-changes_of_sorted.ensures.given in
     let all = given.0 in
     inr (
       _,
       (
         is_different v,
-        (v, is, refl, (all, changes_of c.args.reading c.in_ok-pair.pair c.args.before.now c.args.after.now c.in_ok-pair.ensures _ all c.everything.ensures given.1, refl)),
+        (v, is, refl, (all, changes_of c.args.reading c.in_ok-found.pair c.args.before.now c.args.after.now c.in_ok-found.ensures.sorted _ all c.everything.ensures given.1, refl)),
       ),
       front_behind _ _ _ (written_heading lines.form v) (flat_map (written_change lines.form) all) (written_ending lines.form v)
           (subst (Appends _ _) (c.deref.ensures.value ∙ c.in_ok-heading.ensures) c.in_ok-print.ensures.whole)
@@ -69,14 +69,14 @@ pub returns-in_err-print-2-clause-front : goal.returns-in_err-print-2-clause-fro
 returns-in_err-print-2-clause-front g c =
     let lines = c.args.lines.now in
     let v = c.in_ok-found.found in
-    let is = review_of c.args.reading c.in_ok-pair.pair c.args.before.now c.args.after.now c.in_ok-pair.ensures v c.in_ok-found.ensures.found in
-    let given = c.in_ok-changes_of_sorted.ensures in
+    let is = c.in_ok-found.ensures.found in
+    let given = c.in_ok-changes_of_sorted.ensures.given in
     let all = given.0 in
     inr (
       _,
       (
         is_different v,
-        (v, is, refl, (all, changes_of c.args.reading c.in_ok-pair.pair c.args.before.now c.args.after.now c.in_ok-pair.ensures _ all c.everything.ensures given.1, refl)),
+        (v, is, refl, (all, changes_of c.args.reading c.in_ok-found.pair c.args.before.now c.args.after.now c.in_ok-found.ensures.sorted _ all c.everything.ensures given.1, refl)),
       ),
       front_after _ _ _ (written_heading lines.form v) _
           (subst (Appends _ _) (c.deref.ensures.value ∙ c.in_ok-heading.ensures) c.in_ok-print.ensures.whole)
@@ -90,11 +90,11 @@ pub returns-clause-whole : goal.returns-clause-whole
 returns-clause-whole g c =
     let lines = c.args.lines.now in
     let v = c.in_ok-found.found in
-    let is = review_of c.args.reading c.in_ok-pair.pair c.args.before.now c.args.after.now c.in_ok-pair.ensures v c.in_ok-found.ensures.found in
-    let given = c.in_ok-changes_of_sorted.ensures in
+    let is = c.in_ok-found.ensures.found in
+    let given = c.in_ok-changes_of_sorted.ensures.given in
     let all = given.0 in (
       _,
-      (v, is, c.is_different.ensures, (all, changes_of c.args.reading c.in_ok-pair.pair c.args.before.now c.args.after.now c.in_ok-pair.ensures _ all c.everything.ensures given.1, refl)),
+      (v, is, c.is_different.ensures, (all, changes_of c.args.reading c.in_ok-found.pair c.args.before.now c.args.after.now c.in_ok-found.ensures.sorted _ all c.everything.ensures given.1, refl)),
       appends_both _ _ _ (written_heading lines.form v) _
           (subst (Appends _ _) (c.deref.ensures.value ∙ c.in_ok-heading.ensures) c.in_ok-print.ensures.whole)
           (appends_both _ _ _ (flat_map (written_change lines.form) all) (written_ending lines.form v)

@@ -5,6 +5,7 @@ use Rattle.std.specs.Option.{option_map, option_map_or, option_or, option_and_th
 use Rattle.toml.specs.Data.{Data, Members, as_table}
 use Rattle.ddt_path.specs.declared.record.Role.{Role}
 use Rattle.ddt_path.specs.declared.record.Role.TheVariants.{Node, Ms}
+use Rattle.ddt_config.specs.declared.fault.Key.{Key}
 use Rattle.ddt_config.specs.declared.fault.Key.TheVariants as key
 use Rattle.ddt_config.specs.declared.fault.ConfigFault.{ConfigFault}
 use Rattle.ddt_config.specs.declared.place.Place.{Place}
@@ -66,20 +67,17 @@ in_authority_place top role i ms e = of_prefix (is_ok (path_in ms))
     faulty : Bool → Place × Members
     faulty b = if b then option_map_or (λ found. found) (unread_below role i ms) (Authority i, ms) else (Authority i, ms)
 
+    -- of the tables of a key below it
+    of_key : (k : Key) (place : ℕ → Place) → ((j : ℕ) → table_at top (place j) ≡ option_and_then (table_of k j) (table_of key.Authority i top))
+        → (is_read : Members → Bool) (found : Option (ℕ × Members)) → first_unread is_read 1 (those_of (tables_at k ms)) ≡ found
+        → IsPlaced top (option_map_or (λ f. f) (option_map (λ f. (place f.0, f.1)) found) (Authority i, ms))
+    of_key k place at is_read None is = e
+    of_key k place at is_read (Some (j, m)) is = rw (at j, e) (first_numbered is_read (those_of (tables_at k ms)) j m is)
+
     of_below : (r : Role)
         → IsPlaced top (option_map_or (λ found. found) (unread_below r i ms) (Authority i, ms))
-    of_below Node = of_child (unread_child ms) refl
-      where
-        of_child : (found : Option (ℕ × Members)) → unread_child ms ≡ found
-            → IsPlaced top (option_map_or (λ f. f) (option_map (λ f. (Child i f.0, f.1)) found) (Authority i, ms))
-        of_child None is = e
-        of_child (Some (j, m)) is = rw e (first_numbered _ (those_of (tables_at key.Child ms)) j m is)
-    of_below Ms = of_site (unread_site ms) refl
-      where
-        of_site : (found : Option (ℕ × Members)) → unread_site ms ≡ found
-            → IsPlaced top (option_map_or (λ f. f) (option_map (λ f. (Site i f.0, f.1)) found) (Authority i, ms))
-        of_site None is = e
-        of_site (Some (j, m)) is = rw e (first_numbered _ (those_of (tables_at key.Site ms)) j m is)
+    of_below Node = of_key key.Child (Child i) (λ j. refl) _ (unread_child ms) refl
+    of_below Ms = of_key key.Site (Site i) (λ j. refl) _ (unread_site ms) refl
 
     of_prefix : (b : Bool) → IsPlaced top (faulty b)
     of_prefix true = of_below role

@@ -1,7 +1,6 @@
 #!/usr/bin/env bash
 # Runs resolvers over whole trees of servers in virtual time, judges each outcome, and prints what it took:
 #   bench/scale.sh RESULTS [SITES..] [NAME=NUMBER..]
-#   bench/scale.sh --small [--planted]
 #
 # It makes trees of 10,000, 100,000, 1,000,000 and 10,000,000 sites, or of so many SITES (tools/make_tree.py). It proves
 # and builds the program of bench/scale in a copy of the repository. What the repository has proved is taken over; else
@@ -31,12 +30,11 @@
 # resolvers are counted with what the C library keeps for them. Run it where nothing else runs. 10,000,000 sites take 8
 # GB and some ten minutes, of which two make the tree. Wants rt and python3. Copy the plots to docs by hand.
 #
-# --small runs the same program without proofs on 10,000 sites, with some hundred lookups. With --planted nothing tells
-# it of the replacement, and the status is 0 if wrong outcomes are found.
+# `tests/run whole_tree` runs the same program without proofs on 10,000 sites, with some hundred lookups.
 set -eu
 top=$(cd -- "$(dirname -- "${BASH_SOURCE[0]}")/.." && pwd)
 usage() {
-    sed -n '2,4s/^# //p' "${BASH_SOURCE[0]}" >&2
+    sed -n '2,3s/^# //p' "${BASH_SOURCE[0]}" >&2
     exit 2
 }
 [ $# -gt 0 ] || usage
@@ -57,33 +55,6 @@ tree() {
     python3 "$top/tools/make_tree.py" "$room/$1" "$1"
     python3 "$top/bench/scale/list.py" "$room/$1" 8 >"$room/$1.list"
 }
-
-# small WORD..: a short run without proofs. What it prints is left in the file said; the status is the program's.
-small() {
-    tree 10000
-    local few=(hours=2 from=1 replaced=1 small=1 small-set=500 large=1 large-set=10000 rate=60 astray=20 dying=200)
-    local list=$room/10000.list
-    (cd -- "$copy/crates/scale" && rt try --steps 1000 --seconds 900 -- "$list" "${few[@]}" "$@") >"$room/said" 2>&1
-}
-
-if [ "$1" = --small ]; then
-    case ${2-} in
-        "")
-            small || { cat -- "$room/said"; exit 1; }
-            grep -h "^| *\(asks\|wrong\)\|^\(asks\|wrong\)" "$room/said"
-            ;;
-        --planted)
-            if small planted=1 || ! grep -q "wrong: " "$room/said"; then
-                cat -- "$room/said"
-                echo "nothing was found"
-                exit 1
-            fi
-            echo "wrong outcomes are found"
-            ;;
-        *) usage ;;
-    esac
-    exit 0
-fi
 
 case $1 in -*) usage ;; esac
 mkdir -p -- "$1"

@@ -8,8 +8,8 @@
 # A ROW is a combination as tests/foreign/tree.py has it: who resolves and who is root, node and Map-Server, as KOOK;
 # `odd` is for the odd messages. Without words all are run. DDT, DDTD and DDTPLAN name the programs, by default those of
 # ./ddt, ./ddtd and ./ddtplan; KEEP a folder that is kept, with the logs, results and captures; JOBS how many run at a
-# time, by default 3. With SERVE_SETTINGS=no a Map-Server is started without settings, so that it has nobody to answer
-# who asks without the bit D.
+# time, by default 3. A Map-Server of Kihyamut's has keys, under which ETRs register, and settings. With
+# SERVE_SETTINGS=no it is started without settings, so that it has nobody to answer who asks without the bit D.
 #
 # It wants openoverlayrouter, Linux with network namespaces, which others than root have by a user namespace, a bridge,
 # tun, unshare, ip of iproute2, and Python 3.11. Where one is missing, a line says so and nothing is run. tshark, where

@@ -22,7 +22,7 @@ import typing
 
 ROOT = pathlib.Path(__file__).resolve().parent.parent
 CRATES, DRAWING = ROOT / "crates.txt", ROOT / "docs" / "layers.svg"
-TESTS = "The tests of th"
+TESTS = "The tests th"
 LINE, PAD, WIDTH, COLUMNS = 16, 10, 260, 34
 GAP, BETWEEN, LANE, BESIDE = 40, 56, 24, 20
 GREY = 'fill="#777777"'

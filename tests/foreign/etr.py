@@ -1,4 +1,4 @@
-"""The ETR of three sites: answers the requests that a Map-Server forwards, and registers where that is OOR's."""
+"""The ETR of three sites: registers at the Map-Server, and answers the requests that it forwards."""
 import ipaddress
 import select
 import threading
@@ -17,8 +17,8 @@ def mapping(instance, net):
 
 
 class Etr:
-    def __init__(self, net, registers):
-        self.net, self.registers = net, registers
+    def __init__(self, net):
+        self.net = net
         self.notified, self.next_register = set(), 0
         with apart.Within(net.name("etr")):
             self.socket = apart.bound(V4["etr"])
@@ -27,16 +27,16 @@ class Etr:
     def await_notified(self):
         """Waits until each site is registered. Whether that came."""
         end = time.time() + 10
-        while self.registers and not self.is_registered() and time.time() < end:
+        while not self.is_registered() and time.time() < end:
             time.sleep(0.1)
-        return not self.registers or self.is_registered()
+        return self.is_registered()
 
     def is_registered(self):
         return len(self.notified) == len(SITES)
 
     def run(self):
         while not self.net.stopping:
-            if self.registers and time.time() >= self.next_register:
+            if time.time() >= self.next_register:
                 self.register()
             if select.select([self.socket], [], [], 0.2)[0]:
                 data, _ = self.socket.recvfrom(65535)

@@ -3,8 +3,6 @@ import fnmatch
 
 # (rows, column, mark, a part of the reason, why it is so). In `rows` a ? is any of K, O, P and -.
 CELLS = (
-    ("???K", "register", "FAILS", "no Map-Notify",
-     "Kihyamut's Map-Server takes no Map-Register: the register says which sites have an ETR"),
     ("??O?", "hole-node", "oor", "doesn't hold the identifier",
      "OOR's node sets a bit that the prefix of its hole hasn't: 11.2.0.0/15 for 10.2.0.1"),
     ("K??[OP]", "hole-ms", "oor", "NOT-AUTHORITATIVE",

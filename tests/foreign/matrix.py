@@ -18,7 +18,6 @@ import tree
 import xtrs
 from net import Net
 from players import Players
-from tree import is_oor
 
 DDTPLAN = os.environ["DDTPLAN"]
 
@@ -43,9 +42,9 @@ def run(net, players, found):
     net.make()
     players.start_servers()
     players.start_resolver()
-    site = etr.Etr(net, is_oor(players.who["ms"]))
+    site = etr.Etr(net)
     if not site.await_notified():
-        players.notes.append("OOR's Map-Server sent no Map-Notify for a site of the ETR")
+        players.notes.append(f"{players.full('ms')}'s Map-Server sent no Map-Notify for a site of the ETR")
     client, pair = itr.Itr(net, players), xtrs.Xtrs(net, players)
     has_resolver = players.who["resolver"] != "-"
     found.update(client.ask(itr.QUESTIONS if has_resolver else itr.OF_MAP_SERVER, 13))

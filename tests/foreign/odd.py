@@ -20,6 +20,7 @@ import time
 import apart
 import expected
 import fakes
+import tree
 import variants
 from fakes import Client, told
 from lisp import ACTIONS, REFERRAL
@@ -76,11 +77,13 @@ class Daemons:
             time.sleep(0.05)
 
     def start_all(self):
-        register, allow = self.folder / "register.csv", self.folder / "allow"
+        register, allow, keys = (self.folder / name for name in ("register.csv", "allow", "keys"))
         register.write_text(REGISTER)
         allow.write_text(f'allow = ["{ITR}/32"]\n')
+        tree.write_keys(keys, tree.SITES)
+        east = ["--keys", str(keys), *(["--settings", str(allow)] if WITH_SETTINGS else [])]
         for group in SERVERS:
-            words = ["--settings", str(allow)] if group == "east" and WITH_SETTINGS else []
+            words = east if group == "east" else []
             said = subprocess.run([DDT, "compile", register, group], check=True, capture_output=True, text=True)
             self.start(group, "serve", said.stdout, *words)
         for name, root, listen in (("resolver", ROOT, RESOLVER), ("asked", SERVERS["root"], ASKED),

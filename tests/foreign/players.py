@@ -12,6 +12,7 @@ from tree import V4, is_oor
 
 DDT, DDTD = os.environ["DDT"], os.environ["DDTD"]
 WITH_SETTINGS = os.environ.get("SERVE_SETTINGS") != "no"
+MAP_SERVER_WORDS = ("--keys", "keys.toml", *(("--settings", "allow.toml") if WITH_SETTINGS else ()))
 GROUPS = {"root": "root", "node": "node", "ms": "east"}
 
 
@@ -65,9 +66,10 @@ class Players:
     def start_servers(self):
         (self.folder / "register.csv").write_text(tree.REGISTER)
         (self.folder / "allow.toml").write_text(tree.ANYBODY)
+        tree.write_keys(self.folder / "keys.toml", tree.KEYED_SITES)
         for host, group in GROUPS.items():
             if self.who[host] == "K":
-                words = ["--settings", "allow.toml"] if host == "ms" and WITH_SETTINGS else []
+                words = MAP_SERVER_WORDS if host == "ms" else ()
                 compiled = subprocess.run([DDT, "compile", self.folder / "register.csv", group], check=True,
                                           capture_output=True, text=True)
                 self.start_ddtd(host, "serve", compiled.stdout, *words)

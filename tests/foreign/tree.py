@@ -46,6 +46,8 @@ ANYBODY = 'allow = ["0.0.0.0/0", "::/0"]\n'
 SITES = ((0, "10.1.2.0/24"), (7, "10.1.2.0/24"), (0, "2001:db8:a:1::/64"))
 XTR_SITES = ((0, "10.1.9.0/24"), (0, "10.1.10.0/24"))
 REGISTERED = [(instance, ipaddress.ip_network(prefix)) for instance, prefix in SITES + XTR_SITES]
+# The sites that have a key at a Map-Server, one of them without an ETR.
+KEYED_SITES = (*SITES, (0, "10.1.4.0/24"), *XTR_SITES)
 ZONES = (("0.0.0.0/0", 0), ("0.0.0.0/0", 7), ("::/0", 0))
 NODE = (("10.0.0.0/8", 0), ("10.0.0.0/8", 7), ("2001:db8:8::/45", 0))
 SERVED = (("10.1.0.0/16", 0), ("10.1.0.0/16", 7), ("2001:db8:a::/48", 0))
@@ -71,6 +73,24 @@ def block(name, **values):
     return f"{name} {{\n{lines}}}\n"
 
 
+def table(name, **values):
+    """A table of an array of them in a TOML file."""
+    lines = "".join(f"{key} = {spelled(value)}\n" for key, value in values.items())
+    return f"[[{name}]]\n{lines}\n"
+
+
+def spelled(value):
+    return f'"{value}"' if isinstance(value, str) else str(value).lower()
+
+
+def write_keys(path, sites):
+    """The keys of Kihyamut's Map-Server. openoverlayrouter writes its key-type in 16 bits: the Key ID is 0, and the
+    Algorithm ID 1. Its nonces are random."""
+    words = {"id": 0, "algorithm": "sha1", "secret": KEY, "replay": "any"}
+    path.touch(mode=0o600)
+    path.write_text("".join(table("key", prefix=f"[{instance}]{prefix}", **words) for instance, prefix in sites))
+
+
 def oor_node(zones, children, kind, server):
     servers = f"{{ {V4[server]}, {V6[server]} }}"
     own = [block("ddt-auth-site", eid__prefix=prefix, iid=instance) for prefix, instance in zones]
@@ -86,8 +106,7 @@ def oor_resolver():
 def oor_ms(proxy):
     words = {"key__type": 1, "key": KEY, "accept__more__specifics": "false", "ddt__ms__peers__complete": "true",
              "proxy__reply": "true" if proxy else "false"}
-    sites = (*SITES, (0, "10.1.4.0/24"), *XTR_SITES)
-    text = "".join(block("lisp-site", eid__prefix=prefix, iid=instance, **words) for instance, prefix in sites)
+    text = "".join(block("lisp-site", eid__prefix=prefix, iid=instance, **words) for instance, prefix in KEYED_SITES)
     return HEAD + "control-iface = eth0\noperating-mode = MS\n" + text
 
 

@@ -16,6 +16,7 @@ import apart
 import lisp
 import reading
 import registers
+import tree
 
 DDT, DDTD = os.environ["DDT"], os.environ["DDTD"]
 ROOT, NODE, MS, RESOLVER, ITR, SECOND = (f"192.0.2.{number}" for number in range(1, 7))
@@ -49,11 +50,7 @@ def listed_key(prefix, key, **more):
     prefix = prefix if prefix.startswith("[") else f"[0]{prefix}"
     words = {"prefix": prefix, "id": key.id, "algorithm": registers.HASHES[key.algorithm],
              "secret": key.secret.decode()} | more
-    return "[[key]]\n" + "".join(f'{name} = {spelled(value)}\n' for name, value in words.items()) + "\n"
-
-
-def spelled(value):
-    return f'"{value}"' if isinstance(value, str) else str(value).lower()
+    return tree.table("key", **words)
 
 
 class Checks:

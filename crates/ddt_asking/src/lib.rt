@@ -7,7 +7,7 @@
 //! In reading order: `question`, `changed_questions`, `identifiers`, `sample`, `probe_options`, `question_counts`,
 //! `reply_match`, `verdict`, `await_reply`, `retries`, `prober`, `blocking_wires`, `finding_line`, `finding_counts`;
 //! and for an ITR's questions `itr_questions`, `itr_verdict`, `itr_finding_line`.
-//! Tests: ddt_command_tests/companion/asking.
+//! Tests: tests/crates/command/companion/asking.
 #![tactic(auto)]
 
 mod await_reply;

@@ -3,7 +3,7 @@
 //!
 //! In reading order: `limits`, `moment`, `cache_entry`, `cache`, `saved_records`, `longest_live_match`,
 //! `entry_removal`, `ends_by_time`, `entries_inside`, `laws`.
-//! Tests: ddt_resolver_tests/cache.
+//! Tests: tests/crates/resolver/cache.
 #![tactic(auto)]
 
 mod cache;

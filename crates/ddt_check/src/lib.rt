@@ -3,7 +3,7 @@
 //!
 //! In reading order: `fault`, `accepted`, `first_fault` (with `sorted_on_stack`, `entries`, `keyed`, `sort_key_fronts`
 //! and `rules` below it), `assignment` (with `lookup` and `holes` below it), `honest_answer`, `laws`.
-//! Tests: ddt_register_tests/check.
+//! Tests: tests/crates/register/check.
 #![tactic(auto)]
 
 mod accepted;

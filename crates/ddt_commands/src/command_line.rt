@@ -3,7 +3,7 @@
 //!
 //! In reading order: `declaration` (what a command takes), `fault`, `call` (the words against all commands),
 //! `words` (a call).
-//! Tests: ddt_command_tests/words.
+//! Tests: tests/crates/command/words.
 
 mod call;
 mod declaration;

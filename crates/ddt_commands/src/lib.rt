@@ -6,7 +6,7 @@
 //! `loopback`, `sockets`, `file`, `lines`, `streams`, `usage`, `refusal`, `status`.
 //! Calls that return `AllocError` fail only if out of memory. `open_file` gives the file at a path, or None where it can't
 //! be opened.
-//! Tests: ddt_command_tests/commands.
+//! Tests: tests/crates/command/commands.
 #![tactic(auto)]
 
 mod call;

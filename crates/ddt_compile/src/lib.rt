@@ -2,7 +2,7 @@
 //!
 //! In reading order: `configurations`, `children`, `sites`, `sorted_zones`, `wanted`, `lists_by_key`, `locators`,
 //! `laws`.
-//! Tests: ddt_register_tests/compile.
+//! Tests: tests/crates/register/compile.
 #![tactic(auto)]
 
 mod children;

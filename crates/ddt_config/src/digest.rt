@@ -2,7 +2,7 @@
 //! or edited.
 //!
 //! In reading order: `fault`, `counts`, `seal`, `members`, `document`.
-//! Tests: ddt_command_tests/companion/folder.
+//! Tests: tests/crates/command/companion/folder.
 
 mod counts;
 mod document;

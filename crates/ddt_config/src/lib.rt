@@ -2,7 +2,7 @@
 //! and the settings of a server and of a Map-Resolver.
 //!
 //! In reading order: `fault`, `members`, `values`, `config_item`, `child`, `site_entry`, `authority`, `config`,
-//! `neighbours`, `shape`, `place`, `document`, `laws`, `digest`, `settings`. Tests: ddt_register_tests/config.
+//! `neighbours`, `shape`, `place`, `document`, `laws`, `digest`, `settings`. Tests: tests/crates/register/config.
 #![tactic(auto)]
 
 mod authority;

@@ -2,7 +2,7 @@
 //! it; and the settings of a server: the ITRs that may ask it.
 //!
 //! In reading order: `fault`, `rloc_prefix`, `members`, `resolver_settings`, `server_settings`, `document`.
-//! Tests: ddt_daemon_tests/settings.
+//! Tests: tests/crates/daemon/settings.
 
 mod document;
 mod fault;

@@ -6,7 +6,7 @@
 //! `map_resolver`, `laws`, `statistics`.
 //!
 //! Calls that return `AllocError` fail only if out of memory.
-//! Tests: ddt_daemon_tests/resolving, serving, itr_service, etr_forward and control_words.
+//! Tests: tests/crates/daemon/resolving, serving, itr_service, etr_forward and control_words.
 #![tactic(auto)]
 
 mod admission;

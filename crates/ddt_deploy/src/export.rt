@@ -2,7 +2,7 @@
 //! (OOR), which has a DDT node and a Map-Server.
 //!
 //! In reading order: `row`, `eid_prefix`, `nodes`, `sites`, `blocks`, `file_head`, `oor`.
-//! Tests: ddt_command_tests/companion/export.
+//! Tests: tests/crates/command/companion/export.
 
 mod blocks;
 mod eid_prefix;

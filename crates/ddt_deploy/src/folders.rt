@@ -3,7 +3,7 @@
 //!
 //! In reading order: `publication`, `plan`, `file_changes`, `gone_files`, `config_files`, `order`, `manifest`,
 //! `plan_lines`; `folder`, `folder_in_memory`; `step`, `file_name`, `fault` below them; and `laws`.
-//! Tests: ddt_command_tests/companion/folder.
+//! Tests: tests/crates/command/companion/folder.
 
 mod config_files;
 mod fault;
@@ -22,6 +22,7 @@ mod step;
 
 pub use fault::PublishFault;
 pub use file_changes::read_file;
+pub(crate) use file_changes::{Draft, compare_one};
 pub use file_name::FileName;
 pub use folder::Folder;
 pub use folder_in_memory::{FolderInMemory, MemoryFault};

@@ -4,7 +4,7 @@
 //! Calls that return `AllocError` fail only if out of memory.
 //!
 //! In reading order: `folders`, `rollout` above it; `loopback`; `export`.
-//! Tests: ddt_command_tests/companion/folder, rollout, loopback and export.
+//! Tests: tests/crates/command/companion/folder, rollout, loopback and export.
 #![tactic(auto)]
 
 pub mod export;

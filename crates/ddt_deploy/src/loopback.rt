@@ -2,7 +2,7 @@
 //! it. And the CSV text of a register, which reads back as the same register.
 //!
 //! In reading order: `address`, `moved_register`, `table`; `fields`, `csv_text`.
-//! Tests: ddt_command_tests/companion/loopback.
+//! Tests: tests/crates/command/companion/loopback.
 
 mod address;
 mod csv_text;

@@ -2,7 +2,7 @@
 //!
 //! In reading order: `fault`; `request`, and below it each header as they stand in the bytes: `ecm_header`,
 //! `ip_header` (`ipv4_header` or `ipv6_header`), `udp_header`, `map_request`; `checksum`, `laws`.
-//! Tests: ddt_format_tests/messages/ecm.
+//! Tests: tests/crates/format/messages/ecm.
 #![tactic(auto)]
 
 mod ecm_header;

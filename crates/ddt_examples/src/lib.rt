@@ -4,7 +4,7 @@
 //! field by field, as are those of another implementation in `foreign` and the registrations in `map_registers`.
 //! `replays` are scripts with their lines.
 //! `Dice` draw what tests try at random.
-//! Tests: ddt_format_tests/prefixes/examples.
+//! Tests: tests/crates/format/prefixes/examples.
 #![tactic(auto)]
 
 ghost use Rattle.std.specs.Prelude.{◌≡◌, ◌++◌, [], ◌∷◌, take, Ok, IfOk, OnOk};

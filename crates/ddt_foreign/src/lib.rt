@@ -2,7 +2,7 @@
 //!
 //! In reading order: `fault`; for Map-Referrals `sections`, `entry`, `entries`, `order`, `record`, `plain`; for
 //! Map-Requests `itr_rlocs`, `request`; `laws`.
-//! Tests: ddt_format_tests/messages/foreign.
+//! Tests: tests/crates/format/messages/foreign.
 #![tactic(auto)]
 
 mod entries;

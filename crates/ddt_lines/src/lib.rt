@@ -2,7 +2,7 @@
 //!
 //! In reading order: `text` (the parts of a line), `outcome`, `counts`, `referral`, `negative_reply`, `hop`, `request`
 //! (a line each), `output`.
-//! Tests: ddt_command_tests/lines.
+//! Tests: tests/crates/command/lines.
 #![tactic(auto)]
 
 mod counts;

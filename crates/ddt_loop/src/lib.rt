@@ -4,7 +4,7 @@
 //! In reading order: `clock`, `lookup_end`, `requester`, `requesters`, `start_lookups`, `packet_outcome`,
 //! `resolver_steps`, `socket_polls`, `loop_turns`; `running_resolver` is the same resolver for ITRs alone, whose caller
 //! makes the turns.
-//! Tests: ddt_lookup_tests/turns.
+//! Tests: tests/crates/lookup/turns.
 #![tactic(auto)]
 
 mod clock;

@@ -2,7 +2,7 @@
 //!
 //! In reading order: `hash`, `code`, `comparison`.
 //! No proof speaks of time: that a comparison takes as long for any two codes of one length is its form alone.
-//! Tests: ddt_daemon_tests/registrations/codes.
+//! Tests: tests/crates/daemon/registrations/codes.
 
 mod code;
 mod comparison;

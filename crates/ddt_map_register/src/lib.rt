@@ -3,7 +3,7 @@
 //!
 //! In reading order: `hmac`, `fault`, `registered_locator`, `registered_locators`, `register_record`, `register_records`,
 //! `register_head`, `authentication`, `map_register`, `map_notify`, `laws`.
-//! Tests: ddt_daemon_tests/registrations/reading, authenticity, notifies and refused.
+//! Tests: tests/crates/daemon/registrations/reading, authenticity, notifies and refused.
 #![tactic(auto)]
 
 mod authentication;

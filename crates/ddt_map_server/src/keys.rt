@@ -3,7 +3,7 @@
 //!
 //! In reading order: `fault`, `members`, `secret`, `site_key`, `key_file`; `sites`, `keyring`, `keyrings`,
 //! `keyed_sites`.
-//! Tests: ddt_daemon_tests/registrations/keys.
+//! Tests: tests/crates/daemon/registrations/keys.
 
 mod fault;
 mod key_file;

@@ -3,7 +3,7 @@
 //!
 //! In reading order: `register_outcome`, `register_counts`, `registering`, `source_rate_limit`,
 //! `changed_sites`, `map_server`; `keys`.
-//! Tests: ddt_daemon_tests/registrations/registering and keys.
+//! Tests: tests/crates/daemon/registrations/registering and keys.
 #![tactic(auto)]
 
 mod changed_sites;

@@ -2,7 +2,7 @@
 //!
 //! In reading order: `server`, `served_authority`, `delegations`, `place_index`, `configuration`, `decision` (the
 //! longest authority that covers an identifier, and the answer of it), `site_etrs`, `forward`, `datagram`.
-//! Tests: ddt_server_tests/node.
+//! Tests: tests/crates/server/node.
 #![tactic(auto)]
 
 mod configuration;

@@ -4,7 +4,7 @@
 //!
 //! In reading order: `seam`, where the registers of two meet; `organisation`, `run_by_organisation`, `delegations`,
 //! `organisations_by_group`, `faults`, `seam_pairs`, `organisation_in_charge`, `laws`.
-//! Tests: ddt_review_tests/organisations and seam.
+//! Tests: tests/crates/review/organisations and seam.
 #![tactic(auto)]
 
 mod delegations;

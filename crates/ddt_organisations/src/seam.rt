@@ -3,7 +3,7 @@
 //!
 //! In reading order: `joined`, with `items_by_key` and `row` below it; `group_runs`; `verdict`; `laws`; `seam_report`,
 //! with `differences`, `missing_items` and `crossings`, and `side` and `line` below them.
-//! Tests: ddt_review_tests/seam.
+//! Tests: tests/crates/review/seam.
 
 mod crossings;
 mod differences;

@@ -2,7 +2,7 @@
 //!
 //! In reading order: `locator`, `xeid`, `form`, `prefix` (with `masks` below them), `prefixed`, `matches`;
 //! `locator_set`, `action`, `ttl`, `record`; `name`, `listed`; and the `laws` of holes.
-//! Tests: ddt_format_tests/prefixes/path.
+//! Tests: tests/crates/format/prefixes/path.
 #![tactic(auto)]
 
 mod action;

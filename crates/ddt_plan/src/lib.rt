@@ -10,7 +10,7 @@
 //! In reading order: `sink`, `block_list`, `change_list`, `outcomes`, `counts`; `walk`, with `skip_unchanged`,
 //! `differences`, `sides`, `prefix_halves` and `servers` below it; `groups`, with `versions` and `config_comparison`
 //! below it; `items`, with `pairs_by_key` below it; and `laws`.
-//! Tests: ddt_register_tests/plan.
+//! Tests: tests/crates/register/plan.
 #![tactic(auto)]
 
 mod block_list;

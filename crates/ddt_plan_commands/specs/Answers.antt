@@ -1,9 +1,10 @@
 -- What the commands answer.
-use Rattle.std.specs.Prelude.{ℕ, Bool, true, false, ◌≡◌, ◌⊎◌, List, [], length, Option, Ok}
+use Rattle.std.specs.Prelude.{ℕ, Bool, true, false, ◌≡◌, ◌⊎◌, List, [], length, Option, None, Ok}
 use Rattle.std.specs.List.{flat_map}
 use Rattle.std.specs.Io.KnownBytes.{Keeps}
 use Rattle.ddt_text.specs.FirstFault.{prefix_in}
 use Rattle.ddt_register.specs.declared.register.Register.{Register}
+use Rattle.ddt_check.specs.Rules.{IsAccepted}
 use Rattle.ddt_plan.specs.declared.block_list.Block.{Block}
 use Rattle.ddt_plan.specs.declared.change_list.Change.{Change}
 use Rattle.ddt_plan.specs.declared.groups.GroupChange.{GroupChange}
@@ -12,6 +13,7 @@ use Rattle.ddt_plan.specs.Changes.{AreBlocks, AreChanges}
 use Rattle.ddt_plan.specs.Groups.{AreGroupChanges}
 use Rattle.ddt_lines.specs.Printing.{AppendsFront}
 use Rattle.ddt_commands.specs.Over.{OfItsRegister}
+use Rattle.ddt_commands.specs.Register.{HasBytes, Spell}
 use Rattle.ddt_plan_commands.specs.declared.arguments.Form.{Form}
 use Rattle.ddt_plan_commands.specs.declared.arguments.BlocksAsked.{BlocksAsked}
 use Rattle.ddt_plan_commands.specs.declared.arguments.DiffAsked.{DiffAsked}
@@ -24,6 +26,15 @@ use Rattle.ddt_plan_commands.specs.Ending.{written_changes}
 use Rattle.ddt_plan_commands.specs.Counted.{no_outcomes, with_blocks, no_changes, with_changes}
 use Rattle.ddt_plan_commands.specs.Written.{listed_block, written_counts, written_change_counts}
 use Rattle.ddt_plan_commands.specs.Written.{differs as are_different}
+
+-- what a path opened to: a source, and the accepted register that its bytes spell
+pub record IsOpened {F : Type 0} (opens : List ℕ → Option F → Type 0) (remaining : F → Option (List ℕ))
+    (path : List ℕ) (r : Register) : Type 0 where
+  pub source : Option F
+  pub opened : opens path source
+  pub some : source ≡ None → ⊥
+  pub accepted : IsAccepted r
+  pub spelled : (bytes : List ℕ) → HasBytes remaining source bytes → Spell bytes r
 
 -- a line for each block of a register inside a prefix, or for each that is no hole
 abbrev pub IsListedText : Form → Bool → Register → List ℕ → List ℕ → Type 0

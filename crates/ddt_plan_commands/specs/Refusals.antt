@@ -39,6 +39,12 @@ IsWhyUnopened remaining source path (NoRegister name why) =
 IsWhyUnopened remaining source path CountFull = ⊥
 IsWhyUnopened remaining source path OutOfMemory = ⊥
 
+-- why a path gives none, whatever it opens to
+abbrev pub IsUnopened : {F : Type 0} → (List ℕ → Option F → Type 0) → (F → Option (List ℕ)) → List ℕ → PlanRefusal
+    → Type 0
+IsUnopened opens remaining path why =
+    (source : Option _) × opens path source × IsWhyUnopened remaining source path why
+
 -- why an answer stops once its registers are read; a count may be full only where counts are asked for
 abbrev pub IsWhyUnwritten : Bool → CommandError → Type 0
 IsWhyUnwritten counted (Refused (BadPrefix fault)) = ⊥

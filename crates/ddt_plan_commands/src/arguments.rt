@@ -1,6 +1,6 @@
 //! The arguments of each command, read from the words of a command line.
 
-use crate::command_line::command_line;
+use crate::command_line::program_line;
 use clap::{ArgMatches, Error};
 use ddt_plan::Reading;
 use std::alloc::{AllocError, Global};
@@ -15,7 +15,7 @@ pub enum Form {
 }
 
 /// The arguments of `blocks`.
-#[derive(Clone, Copy, Debug)]
+#[derive(Clone, Copy)]
 pub struct BlocksAsked<'a> {
     /// The path of the register.
     pub register: &'a str,
@@ -40,7 +40,7 @@ pub enum DiffOutput {
 }
 
 /// The arguments of `diff`.
-#[derive(Clone, Copy, Debug)]
+#[derive(Clone, Copy)]
 pub struct DiffAsked<'a> {
     /// The path of the register that is in force.
     pub before: &'a str,
@@ -52,7 +52,7 @@ pub struct DiffAsked<'a> {
 }
 
 /// The arguments of `faults`.
-#[derive(Clone, Copy, Debug)]
+#[derive(Clone, Copy)]
 pub struct FaultsAsked<'a> {
     /// The path of the file.
     pub register: &'a str,
@@ -61,7 +61,7 @@ pub struct FaultsAsked<'a> {
 }
 
 /// The arguments of `warn`.
-#[derive(Debug, Drop)]
+#[derive(Drop)]
 pub struct WarnAsked<'a> {
     /// The path of the register.
     pub register: &'a str,
@@ -76,7 +76,7 @@ pub struct WarnAsked<'a> {
 }
 
 /// The arguments of `compile`.
-#[derive(Debug, Drop)]
+#[derive(Drop)]
 pub struct CompileAsked<'a> {
     /// The path of the register.
     pub register: &'a str,
@@ -93,7 +93,7 @@ pub struct CompileAsked<'a> {
 }
 
 /// A step of a rollout.
-#[derive(Clone, Copy, Debug)]
+#[derive(Clone, Copy)]
 pub struct StepAsked<'a> {
     /// The path of the register that is in force before the first step.
     pub from: &'a str,
@@ -102,7 +102,7 @@ pub struct StepAsked<'a> {
 }
 
 /// The arguments of `rollout`.
-#[derive(Clone, Copy, Debug)]
+#[derive(Clone, Copy)]
 pub struct RolloutAsked<'a> {
     /// The path of the register that is in force.
     pub before: &'a str,
@@ -111,7 +111,7 @@ pub struct RolloutAsked<'a> {
 }
 
 /// The arguments of `report`.
-#[derive(Clone, Copy, Debug)]
+#[derive(Clone, Copy)]
 pub struct ReportAsked<'a> {
     /// The path of the register that is in force.
     pub before: &'a str,
@@ -122,7 +122,7 @@ pub struct ReportAsked<'a> {
 }
 
 /// The arguments of `loopback`.
-#[derive(Clone, Copy, Debug)]
+#[derive(Clone, Copy)]
 pub struct LoopbackAsked<'a> {
     /// The path of the register.
     pub register: &'a str,
@@ -131,7 +131,7 @@ pub struct LoopbackAsked<'a> {
 }
 
 /// The arguments of `export`. The only implementation is openoverlayrouter.
-#[derive(Clone, Copy, Debug)]
+#[derive(Clone, Copy)]
 pub struct ExportAsked<'a> {
     /// The path of the register.
     pub register: &'a str,
@@ -140,7 +140,7 @@ pub struct ExportAsked<'a> {
 }
 
 /// The arguments of `ask`. A number is None if it isn't given.
-#[derive(Debug, Drop)]
+#[derive(Drop)]
 pub struct AskAsked<'a> {
     /// The path of the register.
     pub register: &'a str,
@@ -169,7 +169,7 @@ pub struct AskAsked<'a> {
 }
 
 /// The arguments of `tree`.
-#[derive(Clone, Copy, Debug)]
+#[derive(Clone, Copy)]
 pub struct TreeAsked<'a> {
     /// The path of the register.
     pub register: &'a str,
@@ -180,7 +180,7 @@ pub struct TreeAsked<'a> {
 }
 
 /// The arguments of `ladder`.
-#[derive(Clone, Copy, Debug)]
+#[derive(Clone, Copy)]
 pub struct LadderAsked<'a> {
     /// The path of the register.
     pub register: &'a str,
@@ -188,7 +188,7 @@ pub struct LadderAsked<'a> {
 }
 
 /// The two registers of a seam.
-#[derive(Debug, Drop)]
+#[derive(Drop)]
 pub struct PairAsked<'a> {
     /// The path of our register.
     pub ours: &'a str,
@@ -199,7 +199,7 @@ pub struct PairAsked<'a> {
 }
 
 /// The arguments of `seam`: two registers, or all that an index names.
-#[derive(Debug, Drop)]
+#[derive(Drop)]
 pub enum SeamAsked<'a> {
     Pair(PairAsked<'a>),
     /// The path of the index.
@@ -207,7 +207,7 @@ pub enum SeamAsked<'a> {
 }
 
 /// A command and its arguments.
-#[derive(Debug, Drop)]
+#[derive(Drop)]
 pub enum Asked<'a> {
     Blocks(BlocksAsked<'a>),
     Diff(DiffAsked<'a>),
@@ -227,7 +227,7 @@ pub enum Asked<'a> {
 /// Reads the words of a command line, of which the first is the program's name. A request for help or for the version
 /// is an error that shows it, as in clap.
 pub fn read_asked<'a>(alloc: Global, words: &'a [String]) -> Result<Asked<'a>, Error> {
-    let mut matches = command_line(alloc)?.try_get_matches_from(words)?;
+    let mut matches = program_line(alloc)?.try_get_matches_from(words)?;
     match matches.remove_subcommand() {
         Some((command, matches)) => Ok(asked_of(alloc, command, &matches)?),
         // The command line requires one of its commands.
@@ -246,35 +246,42 @@ fn asked_of<'a>(
 ) -> Result<Asked<'a>, AllocError> {
     let register = matches.get_str("register").unwrap_or("-");
     match command {
-        "blocks" => Ok(Asked::Blocks(blocks_asked(register, matches))),
-        "diff" => Ok(Asked::Diff(diff_asked(matches))),
-        "seam" => Ok(Asked::Seam(seam_asked(alloc, matches)?)),
-        "warn" => Ok(Asked::Warn(warn_asked(alloc, register, matches)?)),
-        "compile" => Ok(Asked::Compile(compile_asked(alloc, register, matches)?)),
-        "rollout" => Ok(Asked::Rollout(RolloutAsked {
+        "seam" => seam_asked(alloc, matches),
+        "warn" => warn_asked(alloc, register, matches),
+        "compile" => compile_asked(alloc, register, matches),
+        "ask" => ask_asked(alloc, register, matches),
+        _ => Ok(asked_once(command, register, matches)),
+    }
+}
+
+/// Returns the arguments of a command, each of which is given once at most.
+fn asked_once<'a>(command: &str, register: &'a str, matches: &ArgMatches<'a>) -> Asked<'a> {
+    match command {
+        "blocks" => Asked::Blocks(blocks_asked(register, matches)),
+        "diff" => Asked::Diff(diff_asked(matches)),
+        "rollout" => Asked::Rollout(RolloutAsked {
             before: matches.get_str("old").unwrap_or("-"),
             after: matches.get_str("new").unwrap_or("-"),
-        })),
-        "report" => Ok(Asked::Report(report_asked(matches))),
-        "loopback" => Ok(Asked::Loopback(LoopbackAsked {
+        }),
+        "report" => Asked::Report(report_asked(matches)),
+        "loopback" => Asked::Loopback(LoopbackAsked {
             register,
             as_table: matches.get_flag("table"),
-        })),
-        "export" => Ok(Asked::Export(export_asked(register, matches))),
-        "ask" => Ok(Asked::Ask(ask_asked(alloc, register, matches)?)),
-        "tree" => Ok(Asked::Tree(TreeAsked {
+        }),
+        "export" => Asked::Export(export_asked(register, matches)),
+        "tree" => Asked::Tree(TreeAsked {
             register,
             under: matches.get_str("under").unwrap_or("*"),
             depth: matches.get_one("depth"),
-        })),
-        "ladder" => Ok(Asked::Ladder(LadderAsked {
+        }),
+        "ladder" => Asked::Ladder(LadderAsked {
             register,
             identifier: matches.get_str("identifier").unwrap_or(""),
-        })),
-        _ => Ok(Asked::Faults(FaultsAsked {
+        }),
+        _ => Asked::Faults(FaultsAsked {
             register,
             old: matches.get_str("old"),
-        })),
+        }),
     }
 }
 
@@ -312,44 +319,44 @@ fn output_asked(matches: &ArgMatches<'_>) -> DiffOutput {
     }
 }
 
-fn seam_asked<'a>(alloc: Global, matches: &ArgMatches<'a>) -> Result<SeamAsked<'a>, AllocError> {
+fn seam_asked<'a>(alloc: Global, matches: &ArgMatches<'a>) -> Result<Asked<'a>, AllocError> {
     if let Some(index) = matches.get_str("index") {
-        return Ok(SeamAsked::Index(index));
+        return Ok(Asked::Seam(SeamAsked::Index(index)));
     }
-    Ok(SeamAsked::Pair(PairAsked {
+    Ok(Asked::Seam(SeamAsked::Pair(PairAsked {
         ours: matches.get_str("ours").unwrap_or("-"),
         theirs: matches.get_str("theirs").unwrap_or("-"),
         foreign: values_of(alloc, matches, "foreign")?,
-    }))
+    })))
 }
 
 fn warn_asked<'a>(
     alloc: Global,
     register: &'a str,
     matches: &ArgMatches<'a>,
-) -> Result<WarnAsked<'a>, AllocError> {
-    Ok(WarnAsked {
+) -> Result<Asked<'a>, AllocError> {
+    Ok(Asked::Warn(WarnAsked {
         register,
         old: matches.get_str("old"),
         resolvers: values_of(alloc, matches, "resolver")?,
         off: values_of(alloc, matches, "off")?,
         foreign: values_of(alloc, matches, "foreign")?,
-    })
+    }))
 }
 
 fn compile_asked<'a>(
     alloc: Global,
     register: &'a str,
     matches: &ArgMatches<'a>,
-) -> Result<CompileAsked<'a>, AllocError> {
-    Ok(CompileAsked {
+) -> Result<Asked<'a>, AllocError> {
+    Ok(Asked::Compile(CompileAsked {
         register,
         folder: matches.get_str("folder").unwrap_or(""),
         foreign: values_of(alloc, matches, "foreign")?,
         removes: matches.get_flag("remove"),
         max_lost: matches.get_one("max-lost"),
         step: step_asked(matches),
-    })
+    }))
 }
 
 fn step_asked<'a>(matches: &ArgMatches<'a>) -> Option<StepAsked<'a>> {
@@ -377,8 +384,8 @@ fn ask_asked<'a>(
     alloc: Global,
     register: &'a str,
     matches: &ArgMatches<'a>,
-) -> Result<AskAsked<'a>, AllocError> {
-    Ok(AskAsked {
+) -> Result<Asked<'a>, AllocError> {
+    Ok(Asked::Ask(AskAsked {
         register,
         identifiers: values_of(alloc, matches, "identifier")?,
         before: matches.get_str("changed"),
@@ -391,7 +398,7 @@ fn ask_asked<'a>(
         rate: matches.get_one("rate"),
         timeout: matches.get_one("timeout"),
         tries: matches.get_one("tries"),
-    })
+    }))
 }
 
 /// Returns the values of an argument that may be given several times.

@@ -15,7 +15,7 @@ use std::io;
 use std::io::Write;
 
 /// The error of a line that isn't written completely.
-#[derive(Clone, Copy, Debug, PartialEq, Eq)]
+#[derive(Clone, Copy, PartialEq, Eq)]
 pub enum LineFault {
     /// Out of memory.
     Memory,

@@ -15,7 +15,7 @@ use std::io;
 use std::io::Write;
 
 /// The error that stops a command.
-#[derive(Clone, Copy, Debug)]
+#[derive(Clone, Copy)]
 pub enum CommandError<'a> {
     /// It refuses, for this reason.
     Refused(PlanRefusal<'a>),

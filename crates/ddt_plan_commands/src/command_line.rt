@@ -1,6 +1,7 @@
 //! The words of the program, as clap reads them.
 
-use clap::{Arg, ArgAction, Command, value_parser};
+use clap::Command;
+use ddt_command_line::{Argument, Declaration, Given, Program, Values, command_line};
 use std::alloc::{AllocError, Global};
 
 const HELP: &str =
@@ -93,297 +94,527 @@ const LADDER_HELP: &str = "Example:
 
 Status: 0, or 2 if it refuses.";
 
+/// A number above 0.
+const NUMBER: Values<'static> = Values::Numbers {
+    first: 1,
+    last: u32::MAX,
+};
+
+/// A number up to 100.
+const PERCENT: Values<'static> = Values::Numbers {
+    first: 0,
+    last: 100,
+};
+
+const PROGRAM: Program<'static> = Program {
+    name: "ddtplan",
+    version: "1.0.0",
+    about: "Review a LISP-DDT register: its faults, what it says of all identifiers, and what a change of it changes.",
+    after_help: HELP,
+};
+
 /// The program's command line.
-pub(crate) fn command_line<'a>(alloc: Global) -> Result<Command<'a>, AllocError> {
-    Command::new(alloc, "ddtplan")
-        .version("1.0.0")
-        .about(
-            "Review a LISP-DDT register: its faults, what it says of all identifiers, and what a change of it changes.",
-        )
-        .after_help(HELP)
-        .subcommand_required(true)
-        .subcommand(blocks_command(alloc)?)?
-        .subcommand(diff_command(alloc)?)?
-        .subcommand(seam_command(alloc)?)?
-        .subcommand(faults_command(alloc)?)?
-        .subcommand(warn_command(alloc)?)?
-        .subcommand(compile_command(alloc)?)?
-        .subcommand(rollout_command(alloc)?)?
-        .subcommand(report_command(alloc)?)?
-        .subcommand(loopback_command(alloc)?)?
-        .subcommand(export_command(alloc)?)?
-        .subcommand(ask_command(alloc)?)?
-        .subcommand(tree_command(alloc)?)?
-        .subcommand(ladder_command(alloc)?)
+pub(crate) fn program_line<'a>(alloc: Global) -> Result<Command<'a>, AllocError> {
+    let commands = [
+        blocks(),
+        diff(),
+        seam(),
+        faults(),
+        warn(),
+        compile(),
+        rollout(),
+        report(),
+        loopback(),
+        export(),
+        ask(),
+        tree(),
+        ladder(),
+    ];
+    command_line(alloc, &PROGRAM, &commands)
 }
 
-fn blocks_command<'a>(alloc: Global) -> Result<Command<'a>, AllocError> {
-    Command::new(alloc, "blocks")
-        .after_help(BLOCKS_HELP)
-        .about(
-            "List the blocks of identifiers that a register assigns alike, and what it assigns to each.",
-        )
-        .arg(path(alloc, "register").help("The register, a CSV file"))?
-        .arg(
-            Arg::new(alloc, "prefix").action(ArgAction::Set).help(
-                "The identifiers that are asked for; all, where it isn't given",
-            ),
-        )?
-        .arg(flag(alloc, "no-holes").help("Leave out the holes"))?
-        .arg(flag(alloc, "count").help("Print only how many blocks there are of each kind"))?
-        .arg(flag(alloc, "json").help("Print a JSON object a line"))
+const BLOCKS: &[Argument<'static>] = &[
+    Argument {
+        name: "register",
+        help: "The register, a CSV file",
+        ..Argument::PLAIN
+    },
+    Argument {
+        name: "prefix",
+        given: Given::Optional,
+        help: "The identifiers that are asked for; all, where it isn't given",
+        ..Argument::PLAIN
+    },
+    Argument {
+        name: "no-holes",
+        given: Given::Flag,
+        help: "Leave out the holes",
+        ..Argument::PLAIN
+    },
+    Argument {
+        name: "count",
+        given: Given::Flag,
+        help: "Print only how many blocks there are of each kind",
+        ..Argument::PLAIN
+    },
+    Argument {
+        name: "json",
+        given: Given::Flag,
+        help: "Print a JSON object a line",
+        ..Argument::PLAIN
+    },
+];
+
+fn blocks() -> Declaration<'static> {
+    Declaration {
+        name: "blocks",
+        about: "List the blocks of identifiers that a register assigns alike, and what it assigns to each.",
+        after_help: Some(BLOCKS_HELP),
+        arguments: BLOCKS,
+    }
 }
 
-fn diff_command<'a>(alloc: Global) -> Result<Command<'a>, AllocError> {
-    Command::new(alloc, "diff")
-        .after_help(DIFF_HELP)
-        .about("List the blocks of identifiers whose assignment changes, and how.")
-        .arg(path(alloc, "old").help("The register that is in force, a CSV file"))?
-        .arg(path(alloc, "new").help("The register that is to come into force, a CSV file"))?
-        .arg(flag(alloc, "exact").help("List also where only the prefix of an outcome differs"))?
-        .arg(flag(alloc, "count").help(
-            "Print only how many changed blocks there are of each kind",
-        ))?
-        .arg(
-            flag(alloc, "summary")
-                .conflicts_with("count")?
-                .help("Print only the summary"),
-        )?
-        .arg(flag(alloc, "json").help("Print a JSON object a line"))
+const DIFF: &[Argument<'static>] = &[
+    Argument {
+        name: "old",
+        help: "The register that is in force, a CSV file",
+        ..Argument::PLAIN
+    },
+    Argument {
+        name: "new",
+        help: "The register that is to come into force, a CSV file",
+        ..Argument::PLAIN
+    },
+    Argument {
+        name: "exact",
+        given: Given::Flag,
+        help: "List also where only the prefix of an outcome differs",
+        ..Argument::PLAIN
+    },
+    Argument {
+        name: "count",
+        given: Given::Flag,
+        help: "Print only how many changed blocks there are of each kind",
+        ..Argument::PLAIN
+    },
+    Argument {
+        name: "summary",
+        given: Given::Flag,
+        conflicts: &["count"],
+        help: "Print only the summary",
+        ..Argument::PLAIN
+    },
+    Argument {
+        name: "json",
+        given: Given::Flag,
+        help: "Print a JSON object a line",
+        ..Argument::PLAIN
+    },
+];
+
+fn diff() -> Declaration<'static> {
+    Declaration {
+        name: "diff",
+        about: "List the blocks of identifiers whose assignment changes, and how.",
+        after_help: Some(DIFF_HELP),
+        arguments: DIFF,
+    }
 }
 
-fn seam_command<'a>(alloc: Global) -> Result<Command<'a>, AllocError> {
-    Command::new(alloc, "seam")
-        .after_help(SEAM_HELP)
-        .about(
-            "Say whether the servers of two registers, each run from its own, are those of one tree.",
-        )
-        .arg(path_but_for_index(alloc, "ours")?.help("Our register, a CSV file"))?
-        .arg(path_but_for_index(alloc, "theirs")?.help(
-            "The register of the other side, a CSV file",
-        ))?
-        .arg(
-            option(alloc, "index", "FILE")
-                .conflicts_with("ours")?
-                .conflicts_with("theirs")?
-                .conflicts_with("foreign")?
-                .help("The registers of a tree, and the groups that each runs, a CSV file"),
-        )?
-        .arg(foreign(alloc).help("A group whose servers the other side runs"))
+const SEAM: &[Argument<'static>] = &[
+    Argument {
+        name: "ours",
+        given: Given::OneUnless("index"),
+        help: "Our register, a CSV file",
+        ..Argument::PLAIN
+    },
+    Argument {
+        name: "theirs",
+        given: Given::OneUnless("index"),
+        help: "The register of the other side, a CSV file",
+        ..Argument::PLAIN
+    },
+    Argument {
+        name: "index",
+        given: Given::Setting("FILE"),
+        conflicts: &["ours", "theirs", "foreign"],
+        help: "The registers of a tree, and the groups that each runs, a CSV file",
+        ..Argument::PLAIN
+    },
+    Argument {
+        name: "foreign",
+        given: Given::Settings("GROUP"),
+        help: "A group whose servers the other side runs",
+        ..Argument::PLAIN
+    },
+];
+
+fn seam() -> Declaration<'static> {
+    Declaration {
+        name: "seam",
+        about: "Say whether the servers of two registers, each run from its own, are those of one tree.",
+        after_help: Some(SEAM_HELP),
+        arguments: SEAM,
+    }
 }
 
-fn faults_command<'a>(alloc: Global) -> Result<Command<'a>, AllocError> {
-    Command::new(alloc, "faults")
-        .after_help(FAULTS_HELP)
-        .about("List every fault of a register's file, with its line.")
-        .arg(path(alloc, "register").help("The file, as people and spreadsheets write it"))?
-        .arg(old(alloc))
+const FAULTS: &[Argument<'static>] = &[
+    Argument {
+        name: "register",
+        help: "The file, as people and spreadsheets write it",
+        ..Argument::PLAIN
+    },
+    Argument {
+        name: "old",
+        given: Given::Setting("OLD"),
+        help: "The register that was in force before, a CSV file",
+        ..Argument::PLAIN
+    },
+];
+
+fn faults() -> Declaration<'static> {
+    Declaration {
+        name: "faults",
+        about: "List every fault of a register's file, with its line.",
+        after_help: Some(FAULTS_HELP),
+        arguments: FAULTS,
+    }
 }
 
-fn warn_command<'a>(alloc: Global) -> Result<Command<'a>, AllocError> {
-    Command::new(alloc, "warn")
-        .after_help(WARN_HELP)
-        .about("List what a register has that is mostly a mistake.")
-        .arg(path(alloc, "register").help("The register, a CSV file"))?
-        .arg(old(alloc))?
-        .arg(
-            Arg::new(alloc, "resolver")
-                .long("resolver")
-                .value_name("ADDRESS")
-                .action(ArgAction::Append)
-                .help("A Map-Resolver's address, which no ETR may have"),
-        )?
-        .arg(
-            Arg::new(alloc, "off")
-                .long("off")
-                .value_name("KIND")
-                .action(ArgAction::Append)
-                .help("Turn a kind of warning off"),
-        )?
-        .arg(foreign(alloc).help(
-            "A group whose servers others run; its zones may differ from their neighbours",
-        ))
+const WARN: &[Argument<'static>] = &[
+    Argument {
+        name: "register",
+        help: "The register, a CSV file",
+        ..Argument::PLAIN
+    },
+    Argument {
+        name: "old",
+        given: Given::Setting("OLD"),
+        help: "The register that was in force before, a CSV file",
+        ..Argument::PLAIN
+    },
+    Argument {
+        name: "resolver",
+        given: Given::Settings("ADDRESS"),
+        help: "A Map-Resolver's address, which no ETR may have",
+        ..Argument::PLAIN
+    },
+    Argument {
+        name: "off",
+        given: Given::Settings("KIND"),
+        help: "Turn a kind of warning off",
+        ..Argument::PLAIN
+    },
+    Argument {
+        name: "foreign",
+        given: Given::Settings("GROUP"),
+        help: "A group whose servers others run; its zones may differ from their neighbours",
+        ..Argument::PLAIN
+    },
+];
+
+fn warn() -> Declaration<'static> {
+    Declaration {
+        name: "warn",
+        about: "List what a register has that is mostly a mistake.",
+        after_help: Some(WARN_HELP),
+        arguments: WARN,
+    }
 }
 
-fn compile_command<'a>(alloc: Global) -> Result<Command<'a>, AllocError> {
-    Command::new(alloc, "compile")
-        .after_help(COMPILE_HELP)
-        .about("Write the configuration of each group into a folder, with a manifest.")
-        .arg(path(alloc, "register").help("The register, a CSV file"))?
-        .arg(path(alloc, "folder").help("The folder"))?
-        .arg(flag(alloc, "remove").help("Remove the files of groups that are gone"))?
-        .arg(
-            Arg::new(alloc, "max-lost")
-                .long("max-lost")
-                .value_name("PERCENT")
-                .action(ArgAction::Set)
-                .value_parser(value_parser!(u32).range(0..101))
-                .help("Refuse where more of the sites in the folder's register are gone"),
-        )?
-        .arg(
-            Arg::new(alloc, "from")
-                .long("from")
-                .value_name("OLD")
-                .action(ArgAction::Set)
-                .requires_arg("step")?
-                .conflicts_with("remove")?
-                .help(
-                    "The register in force; write only the configurations of a step of `rollout`",
-                ),
-        )?
-        .arg(
-            number(alloc, "step")
-                .requires_arg("from")?
-                .help("The number of the step"),
-        )?
-        .arg(foreign(alloc).help("A group whose servers others run; its file isn't written"))
+const COMPILE: &[Argument<'static>] = &[
+    Argument {
+        name: "register",
+        help: "The register, a CSV file",
+        ..Argument::PLAIN
+    },
+    Argument {
+        name: "folder",
+        help: "The folder",
+        ..Argument::PLAIN
+    },
+    Argument {
+        name: "remove",
+        given: Given::Flag,
+        help: "Remove the files of groups that are gone",
+        ..Argument::PLAIN
+    },
+    Argument {
+        name: "max-lost",
+        given: Given::Setting("PERCENT"),
+        values: PERCENT,
+        help: "Refuse where more of the sites in the folder's register are gone",
+        ..Argument::PLAIN
+    },
+    Argument {
+        name: "from",
+        given: Given::Setting("OLD"),
+        conflicts: &["remove"],
+        needs: &["step"],
+        help: "The register in force; write only the configurations of a step of `rollout`",
+        ..Argument::PLAIN
+    },
+    Argument {
+        name: "step",
+        given: Given::Setting("N"),
+        values: NUMBER,
+        needs: &["from"],
+        help: "The number of the step",
+        ..Argument::PLAIN
+    },
+    Argument {
+        name: "foreign",
+        given: Given::Settings("GROUP"),
+        help: "A group whose servers others run; its file isn't written",
+        ..Argument::PLAIN
+    },
+];
+
+fn compile() -> Declaration<'static> {
+    Declaration {
+        name: "compile",
+        about: "Write the configuration of each group into a folder, with a manifest.",
+        after_help: Some(COMPILE_HELP),
+        arguments: COMPILE,
+    }
 }
 
-fn rollout_command<'a>(alloc: Global) -> Result<Command<'a>, AllocError> {
-    Command::new(alloc, "rollout")
-        .after_help(ROLLOUT_HELP)
-        .about(
-            "Print in which steps a change is rolled out, so that everybody is answered meanwhile.",
-        )
-        .arg(path(alloc, "old").help("The register that is in force, a CSV file"))?
-        .arg(path(alloc, "new").help("The register that is to come into force, a CSV file"))
+const ROLLOUT: &[Argument<'static>] = &[
+    Argument {
+        name: "old",
+        help: "The register that is in force, a CSV file",
+        ..Argument::PLAIN
+    },
+    Argument {
+        name: "new",
+        help: "The register that is to come into force, a CSV file",
+        ..Argument::PLAIN
+    },
+];
+
+fn rollout() -> Declaration<'static> {
+    Declaration {
+        name: "rollout",
+        about: "Print in which steps a change is rolled out, so that everybody is answered meanwhile.",
+        after_help: Some(ROLLOUT_HELP),
+        arguments: ROLLOUT,
+    }
 }
 
-fn report_command<'a>(alloc: Global) -> Result<Command<'a>, AllocError> {
-    Command::new(alloc, "report")
-        .after_help(REPORT_HELP)
-        .about("Write a page of HTML that shows a change, to be read in a browser.")
-        .arg(path(alloc, "old").help("The register that is in force, a CSV file"))?
-        .arg(path(alloc, "new").help("The register that is to come into force, a CSV file"))?
-        .arg(path(alloc, "page").help("The page, a file"))
+const REPORT: &[Argument<'static>] = &[
+    Argument {
+        name: "old",
+        help: "The register that is in force, a CSV file",
+        ..Argument::PLAIN
+    },
+    Argument {
+        name: "new",
+        help: "The register that is to come into force, a CSV file",
+        ..Argument::PLAIN
+    },
+    Argument {
+        name: "page",
+        help: "The page, a file",
+        ..Argument::PLAIN
+    },
+];
+
+fn report() -> Declaration<'static> {
+    Declaration {
+        name: "report",
+        about: "Write a page of HTML that shows a change, to be read in a browser.",
+        after_help: Some(REPORT_HELP),
+        arguments: REPORT,
+    }
 }
 
-fn loopback_command<'a>(alloc: Global) -> Result<Command<'a>, AllocError> {
-    Command::new(alloc, "loopback")
-        .after_help(LOOPBACK_HELP)
-        .about("Print the register with its servers at addresses of 127.0.0.0/8.")
-        .arg(path(alloc, "register").help("The register, a CSV file"))?
-        .arg(flag(alloc, "table").help("Print only which address became which"))
+const LOOPBACK: &[Argument<'static>] = &[
+    Argument {
+        name: "register",
+        help: "The register, a CSV file",
+        ..Argument::PLAIN
+    },
+    Argument {
+        name: "table",
+        given: Given::Flag,
+        help: "Print only which address became which",
+        ..Argument::PLAIN
+    },
+];
+
+fn loopback() -> Declaration<'static> {
+    Declaration {
+        name: "loopback",
+        about: "Print the register with its servers at addresses of 127.0.0.0/8.",
+        after_help: Some(LOOPBACK_HELP),
+        arguments: LOOPBACK,
+    }
 }
 
-fn export_command<'a>(alloc: Global) -> Result<Command<'a>, AllocError> {
-    Command::new(alloc, "export")
-        .after_help(EXPORT_HELP)
-        .about("Print a group's configuration as another implementation reads it.")
-        .arg(
-            Arg::new(alloc, "implementation")
-                .required(true)
-                .action(ArgAction::Set)
-                .value_parser(IMPLEMENTATIONS.as_slice())
-                .help("The implementation; oor is openoverlayrouter 1.3.0"),
-        )?
-        .arg(path(alloc, "register").help("The register, a CSV file"))?
-        .arg(path(alloc, "group").help("The name of the group"))
+const EXPORT: &[Argument<'static>] = &[
+    Argument {
+        name: "implementation",
+        values: Values::Among(&IMPLEMENTATIONS),
+        help: "The implementation; oor is openoverlayrouter 1.3.0",
+        ..Argument::PLAIN
+    },
+    Argument {
+        name: "register",
+        help: "The register, a CSV file",
+        ..Argument::PLAIN
+    },
+    Argument {
+        name: "group",
+        help: "The name of the group",
+        ..Argument::PLAIN
+    },
+];
+
+fn export() -> Declaration<'static> {
+    Declaration {
+        name: "export",
+        about: "Print a group's configuration as another implementation reads it.",
+        after_help: Some(EXPORT_HELP),
+        arguments: EXPORT,
+    }
 }
 
-fn ask_command<'a>(alloc: Global) -> Result<Command<'a>, AllocError> {
-    Command::new(alloc, "ask")
-        .after_help(ASK_HELP)
-        .about("Ask the servers of a register, and compare what they say with it.")
-        .arg(path(alloc, "register").help("The register, a CSV file"))?
-        .arg(
-            Arg::new(alloc, "identifier").action(ArgAction::Append).help(
-                "What is asked for; one identifier of each block, where none is given",
-            ),
-        )?
-        .arg(option(alloc, "changed", "OLD").help("Ask only what differs from this register"))?
-        .arg(number(alloc, "sample").help("Ask for so many blocks, drawn at random"))?
-        .arg(flag(alloc, "quiet").help("Leave out what agrees"))?
-        .arg(option(alloc, "resolver", "ADDRESS").help("Ask this Map-Resolver, as an ITR does"))?
-        .arg(option(alloc, "as-itr", "ADDRESS").help(
-            "The address of this machine to which the Map-Resolver replies",
-        ))?
-        .arg(option(alloc, "as-etr", "ADDRESS").help(
-            "The same, where the address is an ETR of the register",
-        ))?
-        .arg(
-            foreign(alloc)
-                .conflicts_with("resolver")?
-                .help("A group whose servers others run; they aren't asked"),
-        )?
-        .arg(number(alloc, "rate").help("Questions a second; 100, where it isn't given"))?
-        .arg(number(alloc, "timeout").help("Milliseconds for a reply; 2000, where it isn't given"))?
-        .arg(number(alloc, "tries").help(
-            "Requests to a server that is silent; 2, where it isn't given",
-        ))
+const ASK: &[Argument<'static>] = &[
+    Argument {
+        name: "register",
+        help: "The register, a CSV file",
+        ..Argument::PLAIN
+    },
+    Argument {
+        name: "identifier",
+        given: Given::Any,
+        help: "What is asked for; one identifier of each block, where none is given",
+        ..Argument::PLAIN
+    },
+    Argument {
+        name: "changed",
+        given: Given::Setting("OLD"),
+        help: "Ask only what differs from this register",
+        ..Argument::PLAIN
+    },
+    Argument {
+        name: "sample",
+        given: Given::Setting("N"),
+        values: NUMBER,
+        help: "Ask for so many blocks, drawn at random",
+        ..Argument::PLAIN
+    },
+    Argument {
+        name: "quiet",
+        given: Given::Flag,
+        help: "Leave out what agrees",
+        ..Argument::PLAIN
+    },
+    Argument {
+        name: "resolver",
+        given: Given::Setting("ADDRESS"),
+        help: "Ask this Map-Resolver, as an ITR does",
+        ..Argument::PLAIN
+    },
+    Argument {
+        name: "as-itr",
+        given: Given::Setting("ADDRESS"),
+        help: "The address of this machine to which the Map-Resolver replies",
+        ..Argument::PLAIN
+    },
+    Argument {
+        name: "as-etr",
+        given: Given::Setting("ADDRESS"),
+        help: "The same, where the address is an ETR of the register",
+        ..Argument::PLAIN
+    },
+    Argument {
+        name: "foreign",
+        given: Given::Settings("GROUP"),
+        conflicts: &["resolver"],
+        help: "A group whose servers others run; they aren't asked",
+        ..Argument::PLAIN
+    },
+    Argument {
+        name: "rate",
+        given: Given::Setting("N"),
+        values: NUMBER,
+        help: "Questions a second; 100, where it isn't given",
+        ..Argument::PLAIN
+    },
+    Argument {
+        name: "timeout",
+        given: Given::Setting("N"),
+        values: NUMBER,
+        help: "Milliseconds for a reply; 2000, where it isn't given",
+        ..Argument::PLAIN
+    },
+    Argument {
+        name: "tries",
+        given: Given::Setting("N"),
+        values: NUMBER,
+        help: "Requests to a server that is silent; 2, where it isn't given",
+        ..Argument::PLAIN
+    },
+];
+
+fn ask() -> Declaration<'static> {
+    Declaration {
+        name: "ask",
+        about: "Ask the servers of a register, and compare what they say with it.",
+        after_help: Some(ASK_HELP),
+        arguments: ASK,
+    }
 }
 
-fn tree_command<'a>(alloc: Global) -> Result<Command<'a>, AllocError> {
-    Command::new(alloc, "tree")
-        .after_help(TREE_HELP)
-        .about("Draw the tree of a register as SVG.")
-        .arg(path(alloc, "register").help("The register, a CSV file"))?
-        .arg(
-            Arg::new(alloc, "under")
-                .long("under")
-                .value_name("PREFIX")
-                .action(ArgAction::Set)
-                .help("Draw what is inside this prefix"),
-        )?
-        .arg(number(alloc, "depth").help("How many levels of zones are drawn"))
+const TREE: &[Argument<'static>] = &[
+    Argument {
+        name: "register",
+        help: "The register, a CSV file",
+        ..Argument::PLAIN
+    },
+    Argument {
+        name: "under",
+        given: Given::Setting("PREFIX"),
+        help: "Draw what is inside this prefix",
+        ..Argument::PLAIN
+    },
+    Argument {
+        name: "depth",
+        given: Given::Setting("N"),
+        values: NUMBER,
+        help: "How many levels of zones are drawn",
+        ..Argument::PLAIN
+    },
+];
+
+fn tree() -> Declaration<'static> {
+    Declaration {
+        name: "tree",
+        about: "Draw the tree of a register as SVG.",
+        after_help: Some(TREE_HELP),
+        arguments: TREE,
+    }
 }
 
-fn ladder_command<'a>(alloc: Global) -> Result<Command<'a>, AllocError> {
-    Command::new(alloc, "ladder")
-        .after_help(LADDER_HELP)
-        .about("Draw the messages of a lookup as SVG.")
-        .arg(path(alloc, "register").help("The register, a CSV file"))?
-        .arg(path(alloc, "identifier").help("What is looked up"))
-}
+const LADDER: &[Argument<'static>] = &[
+    Argument {
+        name: "register",
+        help: "The register, a CSV file",
+        ..Argument::PLAIN
+    },
+    Argument {
+        name: "identifier",
+        help: "What is looked up",
+        ..Argument::PLAIN
+    },
+];
 
-/// The option that names a group whose servers others run; it may be given many times.
-fn foreign<'a>(alloc: Global) -> Arg<'a> {
-    Arg::new(alloc, "foreign")
-        .long("foreign")
-        .value_name("GROUP")
-        .action(ArgAction::Append)
-}
-
-/// An option that has a number above 0.
-fn number<'a>(alloc: Global, name: &'a str) -> Arg<'a> {
-    Arg::new(alloc, name)
-        .long(name)
-        .value_name("N")
-        .action(ArgAction::Set)
-        .value_parser(value_parser!(u32).range(1..))
-}
-
-/// The register that was in force before.
-fn old<'a>(alloc: Global) -> Arg<'a> {
-    Arg::new(alloc, "old")
-        .long("old")
-        .value_name("OLD")
-        .action(ArgAction::Set)
-        .help("The register that was in force before, a CSV file")
-}
-
-/// An option that has a word of this name.
-fn option<'a>(alloc: Global, name: &'a str, value: &'a str) -> Arg<'a> {
-    Arg::new(alloc, name)
-        .long(name)
-        .value_name(value)
-        .action(ArgAction::Set)
-}
-
-/// A path that must be given.
-fn path<'a>(alloc: Global, name: &'a str) -> Arg<'a> {
-    Arg::new(alloc, name).required(true).action(ArgAction::Set)
-}
-
-/// The path of a file that is named, unless an index is.
-fn path_but_for_index<'a>(alloc: Global, name: &'a str) -> Result<Arg<'a>, AllocError> {
-    Ok(
-        Arg::new(alloc, name)
-            .required_unless_present("index")?
-            .action(ArgAction::Set),
-    )
-}
-
-fn flag<'a>(alloc: Global, name: &'a str) -> Arg<'a> {
-    Arg::new(alloc, name).long(name).action(ArgAction::SetTrue)
+fn ladder() -> Declaration<'static> {
+    Declaration {
+        name: "ladder",
+        about: "Draw the messages of a lookup as SVG.",
+        after_help: Some(LADDER_HELP),
+        arguments: LADDER,
+    }
 }

@@ -5,7 +5,7 @@ ghost use Rattle.std.specs.Fn.{FnReturnsAt};
 ghost use Rattle.ddt_commands.specs.Ends.{HasText};
 ghost use Rattle.ddt_plan_commands.specs.declared.exit_status.ExitStatus.TheVariants.{Refused as IsRefused};
 ghost use Rattle.ddt_plan_commands.specs.declared.command_error.CommandError.TheVariants.{Refused as StopsRefused};
-ghost use Rattle.ddt_plan_commands.specs.Answers.{HasFront, IsAnyDiff, IsChangeCountsText, IsChangesText, IsDiffAnswer, IsDiffText, IsSummaryText};
+ghost use Rattle.ddt_plan_commands.specs.Answers.{HasFront, IsAnyDiff, IsChangeCountsText, IsChangesText, IsDiffAnswer, IsDiffText, IsOpened, IsSummaryText};
 ghost use Rattle.ddt_plan_commands.specs.Counted.{has_counted as has_counted_of};
 ghost use Rattle.ddt_plan_commands.specs.Ends.{diff_end as diff_end_of};
 ghost use Rattle.ddt_plan_commands.specs.Refusals.{HasRefused, HasRefusedFront, IsWhyNoDiff, IsWhyUnwritten, is_counted};
@@ -17,7 +17,8 @@ use crate::command_error::CommandError;
 use crate::counts_lines::change_counts_lines;
 use crate::exit_status::ExitStatus;
 use crate::heading_and_ending::{ending, heading};
-use crate::inputs::register_of;
+use crate::inputs::register_opened;
+use crate::refusal::PlanRefusal;
 use crate::review::{compare, everything, is_different};
 use crate::summary::written_summary;
 use ddt_check::Accepted;
@@ -65,7 +66,7 @@ where
         form: asked.form,
         out,
     };
-    let answered = write_changes(alloc, asked, open_file, &mut lines);
+    let answered = write_changes(alloc, asked, &open_file, &mut lines);
     let ChangeLines { out, .. } = lines;
     let end = match answered {
         Ok(differs) => diff_end(differs),
@@ -88,28 +89,70 @@ fn diff_end(differs: bool) -> ExitStatus
 fn write_changes<'a, F, O, W>(
     alloc: Global,
     asked: &DiffAsked<'a>,
-    open_file: O,
+    open_file: &O,
     lines: &mut ChangeLines<W>,
 ) -> Result<bool, CommandError<'a>>
 where
     F: Read + Drop,
-    O: Fn(&str) -> Option<F> + Drop,
+    O: Fn(&str) -> Option<F>,
     W: Write + Drop,
-    requires opens { O.IsAlwaysCallable open_file }
+    requires opens { O.IsAlwaysCallable open_file.now }
     requires form { lines.old.form ≡ asked.now.form }
     ensures whole { IfOk result (λ differs.
-        HasText (IsDiffAnswer (FnReturnsAt O.Fn open_file) F.remaining asked.now differs)
+        HasText (IsDiffAnswer (FnReturnsAt O.Fn open_file.now) F.remaining asked.now differs)
         (W.contents lines.old.out) (W.contents lines.new.out)) }
-    ensures front { HasFront (IsAnyDiff (FnReturnsAt O.Fn open_file) F.remaining asked.now)
+    ensures front { HasFront (IsAnyDiff (FnReturnsAt O.Fn open_file.now) F.remaining asked.now)
         (W.contents lines.old.out) (W.contents lines.new.out) }
     ensures refused { IfErr result (λ stop. (why : _) → stop ≡ StopsRefused why
-        → IsWhyNoDiff (FnReturnsAt O.Fn open_file) F.remaining asked.now why) }
+        → IsWhyNoDiff (FnReturnsAt O.Fn open_file.now) F.remaining asked.now why) }
 {
-    let before = register_of(alloc, open_file(asked.before), asked.before)?;
-    let after = register_of(alloc, open_file(asked.after), asked.after)?;
-    let differs = write_between(alloc, asked, &before, &after, lines)?;
-    lines.out.flush()?;
-    Ok(differs)
+    match registers_of(alloc, asked, open_file) {
+        Ok((before, after)) => write_flushed(alloc, asked, &before, &after, lines),
+        Err(why) => Err(CommandError::Refused(why)),
+    }
+}
+
+/// Returns the register that is in force, and the one that is to come into force.
+fn registers_of<'a, F, O>(
+    alloc: Global,
+    asked: &DiffAsked<'a>,
+    open_file: &O,
+) -> Result<(Accepted, Accepted), PlanRefusal<'a>>
+where
+    F: Read + Drop,
+    O: Fn(&str) -> Option<F>,
+    requires { O.IsAlwaysCallable open_file.now }
+    ensures before { IfOk result (λ found.
+        IsOpened (FnReturnsAt O.Fn open_file.now) F.remaining asked.now.before.now found.0) }
+    ensures after { IfOk result (λ found.
+        IsOpened (FnReturnsAt O.Fn open_file.now) F.remaining asked.now.after.now found.1) }
+    ensures refused { IfErr result (IsWhyNoDiff (FnReturnsAt O.Fn open_file.now) F.remaining asked.now) }
+{
+    let before = register_opened(alloc, open_file, asked.before)?;
+    let after = register_opened(alloc, open_file, asked.after)?;
+    Ok((before, after))
+}
+
+/// Writes the output of `asked.output`, flushes the writer, and returns whether anything differs.
+fn write_flushed<W: Write + Drop>(
+    alloc: Global,
+    asked: &DiffAsked<'_>,
+    before: &Accepted,
+    after: &Accepted,
+    lines: &mut ChangeLines<W>,
+) -> Result<bool, CommandError<'static>>
+    requires { lines.old.form ≡ asked.now.form }
+    ensures whole { IfOk result (λ differs. HasText (IsDiffText asked.now before.now after.now differs)
+        (W.contents lines.old.out) (W.contents lines.new.out)) }
+    ensures front { HasFront (λ text. (differs : Bool) × IsDiffText asked.now before.now after.now differs text)
+        (W.contents lines.old.out) (W.contents lines.new.out) }
+    ensures refused { IfErr result (IsWhyUnwritten (is_counted asked.now.output)) }
+{
+    let differs = write_between(alloc, asked, before, after, lines)?;
+    match lines.out.flush() {
+        Ok(()) => Ok(differs),
+        Err(_) => Err(CommandError::Unprinted),
+    }
 }
 
 /// Writes the output of `asked.output`, and returns whether anything differs.

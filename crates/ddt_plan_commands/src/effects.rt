@@ -19,7 +19,7 @@ use ddt_path::{LocatorSet, Outcome};
 use ddt_plan::{Change, Sink};
 
 /// The effects of changes.
-#[derive(Clone, Copy, Debug, Default, PartialEq, Eq)]
+#[derive(Clone, Copy, Default, PartialEq, Eq)]
 pub struct Effects {
     /// Whether there was a change.
     pub some: bool,

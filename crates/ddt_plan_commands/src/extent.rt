@@ -7,7 +7,7 @@ use ddt_path::Prefix;
 
 /// A number of blocks, and of the addresses in them. The same address in two instances counts twice. Each number is at
 /// most 2^128 - 1, and stays there: the IPv6 addresses of one instance are one more.
-#[derive(Clone, Copy, Debug, Default, PartialEq, Eq)]
+#[derive(Clone, Copy, Default, PartialEq, Eq)]
 pub struct Extent {
     pub blocks: u128,
     pub ipv4: u128,

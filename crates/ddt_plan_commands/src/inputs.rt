@@ -1,10 +1,12 @@
 //! Reads the register at a path, and the prefix in a word.
 
 ghost use Rattle.std.specs.Prelude.{◌≡◌, ◌≢◌, List, ℕ, Ok, Err, None, Some, IfOk, IfErr};
+ghost use Rattle.std.specs.Fn.{FnReturnsAt};
 ghost use Rattle.ddt_text.specs.FirstFault.{prefix_in};
 ghost use Rattle.ddt_check.specs.Rules.{IsAccepted};
 ghost use Rattle.ddt_commands.specs.Register.{HasBytes, Spell};
-ghost use Rattle.ddt_plan_commands.specs.Refusals.{IsWhyUnopened, bad_prefix};
+ghost use Rattle.ddt_plan_commands.specs.Answers.{IsOpened};
+ghost use Rattle.ddt_plan_commands.specs.Refusals.{IsUnopened, IsWhyUnopened, bad_prefix};
 
 use crate::refusal::PlanRefusal;
 use ddt_check::Accepted;
@@ -30,6 +32,22 @@ pub fn register_of<F: Read + Drop>(
         Ok(register) => Ok(register),
         Err(why) => Err(PlanRefusal::NoRegister { path, why }),
     }
+}
+
+/// Returns the accepted register at a path that `open_file` opens. Refused as `register_of`.
+pub(crate) fn register_opened<'a, F, O>(
+    alloc: Global,
+    open_file: &O,
+    path: &'a str,
+) -> Result<Accepted, PlanRefusal<'a>>
+where
+    F: Read + Drop,
+    O: Fn(&str) -> Option<F>,
+    requires { O.IsAlwaysCallable open_file.now }
+    ensures opened { IfOk result (IsOpened (FnReturnsAt O.Fn open_file.now) F.remaining path.entry.now) }
+    ensures refused { IfErr result (IsUnopened (FnReturnsAt O.Fn open_file.now) F.remaining path.entry.now) }
+{
+    register_of(alloc, open_file(path), path)
 }
 
 /// Returns the prefix that a word spells. Refused as BadPrefix.

@@ -28,17 +28,17 @@ pub(crate) fn site_object(
 ) -> Result<Vec<u8>, AllocError>
     ensures { IfOk result (λ line. line.items ≡ ended (compact_text (site_data site.now))) }
 {
-    let value = site_value(alloc, site)?;
-    line_of(alloc, &value)
+    line_of(alloc, site_value(alloc, site)?)
 }
 
 fn site_value(alloc: Global, site: &ItemChange<Prefix, LocatorSet>) -> Result<Value, AllocError>
     ensures { IfOk result (λ v. view v ≡ site_data site.now) }
 {
-    let prefix = prefix_value(alloc, site.key)?;
-    let before = row_value(alloc, &site.before)?;
-    let after = row_value(alloc, &site.after)?;
-    json!(in alloc; {"site": prefix, "before": before, "after": after})
+    json!(in alloc; {
+        "site": prefix_value(alloc, site.key)?,
+        "before": row_value(alloc, &site.before)?,
+        "after": row_value(alloc, &site.after)?
+    })
 }
 
 /// The addresses of a row; null for no such row.
@@ -62,17 +62,17 @@ pub(crate) fn zone_object(
 ) -> Result<Vec<u8>, AllocError>
     ensures { IfOk result (λ line. line.items ≡ ended (compact_text (zone_data zone.now))) }
 {
-    let value = zone_value(alloc, zone)?;
-    line_of(alloc, &value)
+    line_of(alloc, zone_value(alloc, zone)?)
 }
 
 fn zone_value(alloc: Global, zone: &ItemChange<Prefix, ServingGroup>) -> Result<Value, AllocError>
     ensures { IfOk result (λ v. view v ≡ zone_data zone.now) }
 {
-    let prefix = prefix_value(alloc, zone.key)?;
-    let before = home_value(alloc, &zone.before)?;
-    let after = home_value(alloc, &zone.after)?;
-    json!(in alloc; {"zone": prefix, "before": before, "after": after})
+    json!(in alloc; {
+        "zone": prefix_value(alloc, zone.key)?,
+        "before": home_value(alloc, &zone.before)?,
+        "after": home_value(alloc, &zone.after)?
+    })
 }
 
 /// The group and the kind of a zone; null for no such zone.
@@ -81,8 +81,10 @@ fn home_value(alloc: Global, home: &Option<ServingGroup>) -> Result<Value, Alloc
 {
     match home {
         Some(home) => {
-            let group = name_value(alloc, home.group)?;
-            json!(in alloc; {"group": group, "kind": role_word(home.kind)})
+            json!(in alloc; {
+                "group": name_value(alloc, home.group)?,
+                "kind": role_word(home.kind)
+            })
         }
         None => Ok(Value::Null),
     }
@@ -96,8 +98,7 @@ pub(crate) fn group_servers_object(
 ) -> Result<Vec<u8>, AllocError>
     ensures { IfOk result (λ line. line.items ≡ ended (compact_text (group_servers_data group.now))) }
 {
-    let value = group_servers_value(alloc, group)?;
-    line_of(alloc, &value)
+    line_of(alloc, group_servers_value(alloc, group)?)
 }
 
 fn group_servers_value(
@@ -106,10 +107,11 @@ fn group_servers_value(
 ) -> Result<Value, AllocError>
     ensures { IfOk result (λ v. view v ≡ group_servers_data group.now) }
 {
-    let name = name_value(alloc, group.key)?;
-    let before = servers_value(alloc, &group.before)?;
-    let after = servers_value(alloc, &group.after)?;
-    json!(in alloc; {"group": name, "before": before, "after": after})
+    json!(in alloc; {
+        "group": name_value(alloc, group.key)?,
+        "before": servers_value(alloc, &group.before)?,
+        "after": servers_value(alloc, &group.after)?
+    })
 }
 
 /// The kind and the locators of a group; null for no such group.
@@ -118,8 +120,10 @@ fn servers_value(alloc: Global, servers: &Option<GroupServers>) -> Result<Value,
 {
     match servers {
         Some(servers) => {
-            let locators = server_values(alloc, servers.locators.as_slice())?;
-            json!(in alloc; {"kind": role_word(servers.kind), "locators": locators})
+            json!(in alloc; {
+                "kind": role_word(servers.kind),
+                "locators": server_values(alloc, servers.locators.as_slice())?
+            })
         }
         None => Ok(Value::Null),
     }

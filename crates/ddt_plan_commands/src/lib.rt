@@ -8,7 +8,7 @@
 //! with `effects`, `extent` and `referrals` below it, `summary`, `row_tally`, `heading_and_ending`, `lines`,
 //! `item_lines`, `objects` and `item_objects` (a line as text and as JSON), `counts_lines`, `inputs`, `refusal`,
 //! `command_error`, `exit_status`. The other commands have crates of their own.
-//! Tests: ddt_command_tests/companion/plan_commands.
+//! Tests: tests/crates/command/companion/plan_commands.
 #![tactic(auto)]
 
 mod arguments;

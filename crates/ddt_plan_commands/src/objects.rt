@@ -30,16 +30,16 @@ use std::alloc::{AllocError, Global};
 pub(crate) fn block_object(alloc: Global, block: &Block) -> Result<Vec<u8>, AllocError>
     ensures { IfOk result (λ line. line.items ≡ ended (compact_text (block_data block.now))) }
 {
-    let value = block_value(alloc, block)?;
-    line_of(alloc, &value)
+    line_of(alloc, block_value(alloc, block)?)
 }
 
 fn block_value(alloc: Global, block: &Block) -> Result<Value, AllocError>
     ensures { IfOk result (λ v. view v ≡ block_data block.now) }
 {
-    let prefix = prefix_value(alloc, block.prefix)?;
-    let outcome = outcome_value(alloc, &block.outcome)?;
-    json!(in alloc; {"block": prefix, "outcome": outcome})
+    json!(in alloc; {
+        "block": prefix_value(alloc, block.prefix)?,
+        "outcome": outcome_value(alloc, &block.outcome)?
+    })
 }
 
 /// The line of a change: its prefix, the outcome before and the outcome after.
@@ -47,25 +47,24 @@ fn block_value(alloc: Global, block: &Block) -> Result<Value, AllocError>
 pub(crate) fn change_object(alloc: Global, change: &Change) -> Result<Vec<u8>, AllocError>
     ensures { IfOk result (λ line. line.items ≡ ended (compact_text (change_data change.now))) }
 {
-    let value = change_value(alloc, change)?;
-    line_of(alloc, &value)
+    line_of(alloc, change_value(alloc, change)?)
 }
 
 fn change_value(alloc: Global, change: &Change) -> Result<Value, AllocError>
     ensures { IfOk result (λ v. view v ≡ change_data change.now) }
 {
-    let prefix = prefix_value(alloc, change.prefix)?;
-    let before = outcome_value(alloc, &change.before)?;
-    let after = outcome_value(alloc, &change.after)?;
-    json!(in alloc; {"block": prefix, "before": before, "after": after})
+    json!(in alloc; {
+        "block": prefix_value(alloc, change.prefix)?,
+        "before": outcome_value(alloc, &change.before)?,
+        "after": outcome_value(alloc, &change.after)?
+    })
 }
 
 /// The line of how many blocks there are of each kind.
 pub(crate) fn counts_object(alloc: Global, counts: OutcomeCounts) -> Result<Vec<u8>, AllocError>
     ensures { IfOk result (λ line. line.items ≡ ended (compact_text (counts_data counts))) }
 {
-    let value = counts_value(alloc, counts)?;
-    line_of(alloc, &value)
+    line_of(alloc, counts_value(alloc, counts)?)
 }
 
 /// The line of how many changed blocks there were of each kind, and how many there are now.
@@ -76,8 +75,7 @@ pub(crate) fn change_counts_object(
 ) -> Result<Vec<u8>, AllocError>
     ensures { IfOk result (λ line. line.items ≡ ended (compact_text (change_counts_data counts groups))) }
 {
-    let value = change_counts_value(alloc, counts, groups)?;
-    line_of(alloc, &value)
+    line_of(alloc, change_counts_value(alloc, counts, groups)?)
 }
 
 fn change_counts_value(
@@ -87,32 +85,34 @@ fn change_counts_value(
 ) -> Result<Value, AllocError>
     ensures { IfOk result (λ v. view v ≡ change_counts_data counts groups) }
 {
-    let before = counts_value(alloc, counts.before)?;
-    let after = counts_value(alloc, counts.after)?;
-    json!(in alloc; {"before": before, "after": after, "groups": groups})
+    json!(in alloc; {
+        "before": counts_value(alloc, counts.before)?,
+        "after": counts_value(alloc, counts.after)?,
+        "groups": groups
+    })
 }
 
 /// The line of a group whose configuration changes.
 pub(crate) fn group_object(alloc: Global, change: &GroupChange) -> Result<Vec<u8>, AllocError>
     ensures { IfOk result (λ line. line.items ≡ ended (compact_text (group_data change.now))) }
 {
-    let value = group_value(alloc, change)?;
-    line_of(alloc, &value)
+    line_of(alloc, group_value(alloc, change)?)
 }
 
 fn group_value(alloc: Global, change: &GroupChange) -> Result<Value, AllocError>
     ensures { IfOk result (λ v. view v ≡ group_data change.now) }
 {
-    let name = name_value(alloc, change.name)?;
-    json!(in alloc; {"group": name, "configuration": kind_word(change.kind)})
+    json!(in alloc; {
+        "group": name_value(alloc, change.name)?,
+        "configuration": kind_word(change.kind)
+    })
 }
 
 /// The line of how many seconds caches hold something.
 pub(crate) fn cache_object(alloc: Global, held: &str, seconds: u64) -> Result<Vec<u8>, AllocError>
     ensures { IfOk result (λ line. line.items ≡ ended (compact_text (cache_data held.now seconds))) }
 {
-    let value = cache_value(alloc, held, seconds)?;
-    line_of(alloc, &value)
+    line_of(alloc, cache_value(alloc, held, seconds)?)
 }
 
 fn cache_value(alloc: Global, held: &str, seconds: u64) -> Result<Value, AllocError>
@@ -130,9 +130,11 @@ fn outcome_value(alloc: Global, outcome: &Outcome) -> Result<Value, AllocError>
         Outcome::NotRegistered { prefix, servers } => ("not-registered", *prefix, *servers),
         Outcome::Hole { prefix } => ("hole", *prefix, LocatorSet::none()),
     };
-    let prefix = prefix_value(alloc, prefix)?;
-    let servers = server_values(alloc, servers.as_slice())?;
-    json!(in alloc; {"kind": kind, "prefix": prefix, "servers": servers})
+    json!(in alloc; {
+        "kind": kind,
+        "prefix": prefix_value(alloc, prefix)?,
+        "servers": server_values(alloc, servers.as_slice())?
+    })
 }
 
 /// How many there are of each kind.
@@ -193,9 +195,9 @@ fn string_value(text: Vec<u8>) -> Value
 }
 
 /// An object as a line.
-pub(crate) fn line_of(alloc: Global, object: &Value) -> Result<Vec<u8>, AllocError>
-    requires { has_float (view object.now) ≡ false }
-    ensures { IfOk result (λ line. line.items ≡ ended (compact_text (view object.now))) }
+pub(crate) fn line_of(alloc: Global, object: Value) -> Result<Vec<u8>, AllocError>
+    requires { has_float (view object) ≡ false }
+    ensures { IfOk result (λ line. line.items ≡ ended (compact_text (view object))) }
 {
     let mut line = object.to_string(alloc)?.into_bytes();
     line.push(b'\n')?;

@@ -6,7 +6,7 @@ use std::alloc::AllocError;
 use std::fmt;
 
 /// The reason why a command gives no answer.
-#[derive(Clone, Copy, Debug)]
+#[derive(Clone, Copy)]
 pub enum PlanRefusal<'a> {
     /// The word is no prefix.
     BadPrefix(TextFault),

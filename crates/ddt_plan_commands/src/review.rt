@@ -15,7 +15,7 @@ use ddt_plan::{
 use std::alloc::Global;
 
 /// The differences between two registers.
-#[derive(Debug, Drop)]
+#[derive(Drop)]
 pub struct Review {
     /// The effects of the changes of blocks.
     pub effects: Effects,

@@ -6,7 +6,7 @@ ghost use Rattle.ddt_plan_commands.specs.Review.{how_many, is_gained, is_kept, i
 use ddt_plan::ItemChange;
 
 /// The number of rows of one kind that are lost, gained and changed.
-#[derive(Clone, Copy, Debug, PartialEq, Eq)]
+#[derive(Clone, Copy, PartialEq, Eq)]
 pub struct RowTally {
     /// Rows that only the earlier register has.
     pub lost: usize,

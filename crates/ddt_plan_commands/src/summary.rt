@@ -182,42 +182,36 @@ fn push_count(text: &mut Vec<u8>, count: usize) -> Result<(), AllocError>
 fn summary_object(alloc: Global, found: &Review) -> Result<Vec<u8>, AllocError>
     ensures { IfOk result (λ line. line.items ≡ ended (compact_text (summary_data found.now))) }
 {
-    let value = summary_value(alloc, found)?;
-    line_of(alloc, &value)
+    line_of(alloc, summary_value(alloc, found)?)
 }
 
 fn summary_value(alloc: Global, found: &Review) -> Result<Value, AllocError>
     ensures { IfOk result (λ v. view v ≡ summary_data found.now) }
 {
-    let numbers = numbers_value(alloc, found)?;
-    json!(in alloc; {"summary": numbers})
+    json!(in alloc; {"summary": numbers_value(alloc, found)?})
 }
 
 fn numbers_value(alloc: Global, found: &Review) -> Result<Value, AllocError>
     ensures { IfOk result (λ v. view v ≡ numbers_data found.now) }
 {
-    let holes = extent_value(alloc, found.effects.holes)?;
-    let moved = extent_value(alloc, found.effects.moved)?;
-    let unregistered = extent_value(alloc, found.effects.unregistered)?;
-    let sites = tally_value(alloc, count_rows(found.items.sites.as_slice()))?;
-    let zones = tally_value(alloc, count_rows(found.items.zones.as_slice()))?;
     json!(in alloc; {
-        "become-holes": holes,
-        "change-servers": moved,
+        "become-holes": extent_value(alloc, found.effects.holes)?,
+        "change-servers": extent_value(alloc, found.effects.moved)?,
         "groups-to-reload": found.groups.len(),
-        "lose-registration": unregistered,
-        "sites": sites,
-        "zones": zones
+        "lose-registration": extent_value(alloc, found.effects.unregistered)?,
+        "sites": tally_value(alloc, count_rows(found.items.sites.as_slice()))?,
+        "zones": tally_value(alloc, count_rows(found.items.zones.as_slice()))?
     })
 }
 
 fn extent_value(alloc: Global, extent: Extent) -> Result<Value, AllocError>
     ensures { IfOk result (λ v. view v ≡ extent_data extent) }
 {
-    let blocks = Value::String(number_text(alloc, extent.blocks)?);
-    let ipv4 = Value::String(number_text(alloc, extent.ipv4)?);
-    let ipv6 = Value::String(number_text(alloc, extent.ipv6)?);
-    json!(in alloc; {"blocks": blocks, "ipv4": ipv4, "ipv6": ipv6})
+    json!(in alloc; {
+        "blocks": number_text(alloc, extent.blocks)?,
+        "ipv4": number_text(alloc, extent.ipv4)?,
+        "ipv6": number_text(alloc, extent.ipv6)?
+    })
 }
 
 fn tally_value(alloc: Global, tally: RowTally) -> Result<Value, AllocError>

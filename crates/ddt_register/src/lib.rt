@@ -2,7 +2,7 @@
 //!
 //! In reading order: `zone`, `etrs`, `site`, `group`, `item`, `row_order`, `register`; `csv_row`, `items`, `reader`,
 //! `fault`; `laws`.
-//! Tests: ddt_register_tests/register.
+//! Tests: tests/crates/register/reading.
 #![tactic(auto)]
 
 mod csv_row;

@@ -80,7 +80,7 @@ impl Key {
 }
 
 /// The first key with a Key ID and an Algorithm ID.
-fn named(keys: &[Key], id: u8, algorithm: u8) -> Option<&Key>
+pub(crate) fn named(keys: &[Key], id: u8, algorithm: u8) -> Option<&Key>
     ensures { option_map (λ k. k.now) result ≡ key_named id algorithm keys.now }
 {
     keys.iter()

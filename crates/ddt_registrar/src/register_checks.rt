@@ -21,9 +21,9 @@ use ddt_path::MOST_LOCATORS;
 /// The priority of a locator that must not be used.
 const NOT_USED: u8 = 255;
 /// The most xTRs that are registered for a site.
-const MOST_XTRS: usize = 8;
+pub(crate) const MOST_XTRS: usize = 8;
 /// The most last nonces that are recorded for a site.
-const MOST_NONCES: usize = 32;
+pub(crate) const MOST_NONCES: usize = 32;
 
 /// The ETR of a locator, if it can be used: it has an address, its priority isn't 255, and the bit R is set.
 pub(crate) fn etr_of(locator: &RegisteredLocator) -> Option<Ranked>

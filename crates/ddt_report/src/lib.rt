@@ -4,7 +4,7 @@
 //!
 //! In reading order: `page`, `head`, `sections`, with `tables`, `row_marks`, `lines_and_fields` and `html` below it;
 //! `laws`; `pictures`.
-//! Tests: ddt_review_tests/report and pictures.
+//! Tests: tests/crates/review/report and pictures.
 #![tactic(auto)]
 
 mod head;

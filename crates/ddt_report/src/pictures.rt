@@ -2,7 +2,7 @@
 //!
 //! In reading order: `tree` (with `group_boxes`, `strip`, `cards` and `layout` below it), `change` (with `differences`
 //! and `shown_zones` below it), `ladder` (with `hops` below it), and `svg`.
-//! Tests: ddt_review_tests/pictures.
+//! Tests: tests/crates/review/pictures.
 
 mod cards;
 mod change;

@@ -4,7 +4,7 @@
 //! In reading order: `results`, `limits`, `pending`, `ticketed_lookup`, `table`, `resolver`, `asks`, `replies`,
 //! `zone_cut`, `loop_detection`, `actions`, `ticks`, `step`, `requests`, `laws`; `itr_messages` has the messages of
 //! ITRs.
-//! Tests: ddt_resolver_tests/resolver.
+//! Tests: tests/crates/resolver.
 #![tactic(auto)]
 
 mod actions;

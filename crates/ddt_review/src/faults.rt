@@ -2,7 +2,7 @@
 //!
 //! In reading order: `broken`; `index`, with `first_items` and `longest_zone` below it; `items_in_row`;
 //! `rule_at_row`.
-//! Tests: ddt_review_tests/faults.
+//! Tests: tests/crates/review/faults.
 
 mod broken;
 mod first_items;

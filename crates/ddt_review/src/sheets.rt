@@ -4,7 +4,7 @@
 //! `encodings`, `divider`, `line_numbers`, `open_quote`, `columns`, `rows`, `reader` (how it is read); `broken_rule`,
 //! `fault_line`, `possible_causes`, `field_reasons`, `rule_reasons`, `printed`, `all_faults` (which faults it has);
 //! `fault_text`.
-//! Tests: ddt_review_tests/sheets.
+//! Tests: tests/crates/review/sheets.
 
 mod all_faults;
 mod broken_rule;
@@ -31,3 +31,4 @@ pub use all_faults::file_faults;
 pub use broken_rule::BrokenRule;
 pub use fault_line::{FaultKind, FaultLine, FaultScope};
 pub use fault_text::fault_lines_text;
+pub(crate) use printed::printed_prefix;

@@ -4,7 +4,7 @@
 //! `of_sites`, `of_zones`, and `index` with `by_prefix`, `zone_tree`, `children`, `delegations`, `servers` and
 //! `neighbouring_sites` below it. What a later register lacks of an earlier one: `lost_sites`, `missing_zone` and
 //! `truncated_file`.
-//! Tests: ddt_review_tests/warnings.
+//! Tests: tests/crates/review/warnings.
 
 mod all_warnings;
 mod by_prefix;

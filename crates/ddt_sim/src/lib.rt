@@ -2,7 +2,7 @@
 //!
 //! In reading order: `servers`, `compiled_servers`, `laws`, `lookup_result`, `exchange`, `one_lookup`, `schedule`,
 //! `schedule_run`.
-//! Tests: ddt_lookup_tests/sim.
+//! Tests: tests/crates/lookup/sim.
 #![tactic(auto)]
 
 mod compiled_servers;

@@ -2,7 +2,7 @@
 //!
 //! In reading order: `wire_calls`, `wires`, `server_turns`, `wires_in_memory`, `ip_addresses`, `udp_socket`,
 //! `udp_wires`, `polled_wires`, `nonces`.
-//! Tests: ddt_server_tests/wires and polled.
+//! Tests: tests/crates/server/wires and polled.
 #![tactic(auto)]
 
 mod ip_addresses;

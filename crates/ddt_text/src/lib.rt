@@ -3,7 +3,7 @@
 //! that is written (specs/Written.antt), which spells the value, so that it is read again. Parsers allocate nothing.
 //!
 //! In reading order: `fault`, `number`, `parts`, `quad`, `address_text`, `xeid_text`, `prefix_text`.
-//! Tests: ddt_format_tests/prefixes/text.
+//! Tests: tests/crates/format/prefixes/text.
 #![tactic(auto)]
 
 mod address_text;

@@ -6,7 +6,7 @@
 //!
 //! In reading order: `prefix_map` (the trait), `list_map`, `tree`, `trie_map`; `hash_key`, `hash_table`,
 //! `hashed_map`; `laws`.
-//! Tests: ddt_server_tests/trie, hash and callers.
+//! Tests: tests/crates/server/trie, hash and callers.
 #![tactic(auto)]
 
 mod hash_key;

@@ -2,7 +2,7 @@
 //!
 //! In reading order: `message_type`, `address`, `addresses`, `eid`, `head`, `fault`, `locator_record`, `referral`,
 //! `negative_reply`, `laws`.
-//! Tests: ddt_format_tests/messages/wire.
+//! Tests: tests/crates/format/messages/wire.
 #![tactic(auto)]
 
 mod address;

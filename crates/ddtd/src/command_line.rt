@@ -1,12 +1,13 @@
 //! The command line: its commands, options and help, and the arguments of each command.
 
-use crate::statistics_format::Form;
-use clap::{Arg, ArgAction, ArgMatches, Command, Error};
+use clap::{ArgMatches, Command, Error};
+use ddt_command_line::{Argument, Declaration, Given, Program, Values, command_line};
 use ddt_daemon::{ControlWord, WORDS};
+use ddt_daemon_text::StatisticsFormat;
 use std::alloc::{AllocError, Global};
 
 /// The arguments of `check`.
-#[derive(Clone, Copy, Debug)]
+#[derive(Clone, Copy)]
 pub struct CheckArgs<'a> {
     /// The path of the file.
     pub file: &'a str,
@@ -15,7 +16,7 @@ pub struct CheckArgs<'a> {
 }
 
 /// The arguments of `serve`.
-#[derive(Debug, Drop)]
+#[derive(Drop)]
 pub struct ServeArgs<'a> {
     /// The path of the configuration.
     pub config: &'a str,
@@ -36,7 +37,7 @@ pub struct ServeArgs<'a> {
 }
 
 /// The arguments of `resolve`.
-#[derive(Clone, Copy, Debug)]
+#[derive(Clone, Copy)]
 pub struct ResolveArgs<'a> {
     /// The path of the settings.
     pub settings: &'a str,
@@ -45,7 +46,7 @@ pub struct ResolveArgs<'a> {
 }
 
 /// The arguments of `tell`.
-#[derive(Clone, Copy, Debug)]
+#[derive(Clone, Copy)]
 pub struct TellArgs<'a> {
     /// The path of the daemon's control socket.
     pub socket: &'a str,
@@ -53,22 +54,17 @@ pub struct TellArgs<'a> {
     /// The text after the word: a prefix or an identifier.
     pub argument: Option<&'a str>,
     /// The format in which counts are printed.
-    pub form: Form,
+    pub form: StatisticsFormat,
 }
 
 /// A command with its arguments.
-#[derive(Debug, Drop)]
+#[derive(Drop)]
 pub enum Invocation<'a> {
     Check(CheckArgs<'a>),
     Serve(ServeArgs<'a>),
     Resolve(ResolveArgs<'a>),
     Tell(TellArgs<'a>),
 }
-
-/// The names of the formats of counts.
-const FORMS: [&str; 3] = ["lines", "json", "prometheus"];
-
-const HELP: &str = "ddtd(8) says what each command reads, logs and counts.";
 
 const SERVE_HELP: &str = "Examples:
   ddtd serve node.toml                          at all locators of the file that are this machine's
@@ -108,27 +104,194 @@ const RESOLVE_HELP: &str = "The settings:
 
 Status: 0 if it was told to stop, 2 if it refuses.";
 
+/// The names of the formats of counts.
+const FORMATS: [&str; 3] = ["lines", "json", "prometheus"];
+
+const PROGRAM: Program<'static> = Program {
+    name: "ddtd",
+    version: "1.0.0",
+    about: "A LISP-DDT node, Map-Server or Map-Resolver that runs until it is stopped.",
+    after_help: "ddtd(8) says what each command reads, logs and counts.",
+};
+
+/// The program's command line.
+fn program_line<'a>(alloc: Global) -> Result<Command<'a>, AllocError> {
+    let commands = [check(), serve(), resolve(), tell()];
+    command_line(alloc, &PROGRAM, &commands)
+}
+
+const CHECK: &[Argument<'static>] = &[
+    Argument {
+        name: "config",
+        help: "The configuration, the settings or the keys, a TOML file",
+        ..Argument::PLAIN
+    },
+    Argument {
+        name: "keys",
+        given: Given::Setting("FILE"),
+        help: "The keys of sites of the configuration, a TOML file",
+        ..Argument::PLAIN
+    },
+];
+
+fn check() -> Declaration<'static> {
+    Declaration {
+        name: "check",
+        about: "Say whether a configuration, settings of a resolver or a server, or keys are good.",
+        after_help: None,
+        arguments: CHECK,
+    }
+}
+
+const SERVE: &[Argument<'static>] = &[
+    Argument {
+        name: "config",
+        help: "The configuration, a TOML file",
+        ..Argument::PLAIN
+    },
+    Argument {
+        name: "address",
+        given: Given::Any,
+        help: "Where it serves, each a locator of the configuration",
+        ..Argument::PLAIN
+    },
+    Argument {
+        name: "settings",
+        given: Given::Setting("FILE"),
+        help: "Answer the ITRs that this TOML file allows",
+        ..Argument::PLAIN
+    },
+    Argument {
+        name: "keys",
+        given: Given::Setting("FILE"),
+        help: "Let ETRs register under the keys of this TOML file",
+        ..Argument::PLAIN
+    },
+    Argument {
+        name: "registrations",
+        given: Given::Setting("FILE"),
+        needs: &["keys"],
+        help: "Keep in this file, over a restart, what is registered",
+        ..Argument::PLAIN
+    },
+    CONTROL,
+    Argument {
+        name: "watch",
+        given: Given::Flag,
+        help: "Take the files up whenever one has changed",
+        ..Argument::PLAIN
+    },
+    Argument {
+        name: "share",
+        given: Given::Flag,
+        conflicts: &["keys"],
+        help: "Let other processes serve at the same addresses",
+        ..Argument::PLAIN
+    },
+];
+
+fn serve() -> Declaration<'static> {
+    Declaration {
+        name: "serve",
+        about: "Serve a configuration as a DDT node or a Map-Server.",
+        after_help: Some(SERVE_HELP),
+        arguments: SERVE,
+    }
+}
+
+const RESOLVE: &[Argument<'static>] = &[
+    Argument {
+        name: "settings",
+        help: "The settings, a TOML file",
+        ..Argument::PLAIN
+    },
+    CONTROL,
+];
+
+fn resolve() -> Declaration<'static> {
+    Declaration {
+        name: "resolve",
+        about: "Resolve for ITRs as a Map-Resolver.",
+        after_help: Some(RESOLVE_HELP),
+        arguments: RESOLVE,
+    }
+}
+
+const TELL: &[Argument<'static>] = &[
+    Argument {
+        name: "socket",
+        help: "The daemon's control socket",
+        ..Argument::PLAIN
+    },
+    Argument {
+        name: "word",
+        values: Values::Among(&WORDS),
+        help: "What it is to do",
+        ..Argument::PLAIN
+    },
+    Argument {
+        name: "argument",
+        given: Given::Optional,
+        help: "A prefix or an identifier, where the word takes one",
+        ..Argument::PLAIN
+    },
+    Argument {
+        name: "format",
+        given: Given::Setting("FORM"),
+        values: Values::Among(&FORMATS),
+        help: "Print counts in this form",
+        ..Argument::PLAIN
+    },
+];
+
+fn tell() -> Declaration<'static> {
+    Declaration {
+        name: "tell",
+        about: "Tell a running daemon what to do, and print what it answers.",
+        after_help: Some(TELL_HELP),
+        arguments: TELL,
+    }
+}
+
+/// The option `--control`, the path of the control socket.
+const CONTROL: Argument<'static> = Argument {
+    name: "control",
+    given: Given::Setting("SOCKET"),
+    help: "Listen at this Unix socket for what it is told",
+    ..Argument::PLAIN
+};
+
 /// The command that the arguments of the process ask for; the first argument is the program's name. A request for help
 /// or for the version is an error that prints it, as in clap.
 pub fn parse_command_line<'a>(alloc: Global, words: &'a [String]) -> Result<Invocation<'a>, Error> {
-    let mut matches = command_line(alloc)?.try_get_matches_from(words)?;
+    let mut matches = program_line(alloc)?.try_get_matches_from(words)?;
     match matches.remove_subcommand() {
-        Some(("serve", matches)) => Ok(Invocation::Serve(serve_args(alloc, &matches)?)),
-        Some(("resolve", matches)) => Ok(Invocation::Resolve(ResolveArgs {
-            settings: matches.get_str("settings").unwrap_or(""),
-            control: matches.get_str("control"),
-        })),
-        Some(("tell", matches)) => Ok(Invocation::Tell(tell_args(&matches))),
-        Some((_, matches)) => Ok(Invocation::Check(CheckArgs {
-            file: matches.get_str("config").unwrap_or(""),
-            keys: matches.get_str("keys"),
-        })),
+        Some((name, matches)) => Ok(invocation_of(alloc, name, &matches)?),
         // clap requires a command.
         None => Ok(Invocation::Check(CheckArgs {
             file: "",
             keys: None,
         })),
     }
+}
+
+fn invocation_of<'a>(
+    alloc: Global,
+    name: &str,
+    matches: &ArgMatches<'a>,
+) -> Result<Invocation<'a>, AllocError> {
+    Ok(match name {
+        "serve" => Invocation::Serve(serve_args(alloc, matches)?),
+        "resolve" => Invocation::Resolve(ResolveArgs {
+            settings: matches.get_str("settings").unwrap_or(""),
+            control: matches.get_str("control"),
+        }),
+        "tell" => Invocation::Tell(tell_args(matches)),
+        _ => Invocation::Check(CheckArgs {
+            file: matches.get_str("config").unwrap_or(""),
+            keys: matches.get_str("keys"),
+        }),
+    })
 }
 
 fn serve_args<'a>(alloc: Global, matches: &ArgMatches<'a>) -> Result<ServeArgs<'a>, AllocError> {
@@ -154,127 +317,6 @@ fn tell_args<'a>(matches: &ArgMatches<'a>) -> TellArgs<'a> {
         socket: matches.get_str("socket").unwrap_or(""),
         word: ControlWord::of(word).unwrap_or(ControlWord::Stats),
         argument: matches.get_str("argument"),
-        form: Form::of(matches.get_str("format").unwrap_or("")),
+        form: StatisticsFormat::of(matches.get_str("format").unwrap_or("")),
     }
-}
-
-/// The program's command line.
-fn command_line<'a>(alloc: Global) -> Result<Command<'a>, AllocError> {
-    Command::new(alloc, "ddtd")
-        .version("1.0.0")
-        .about("A LISP-DDT node, Map-Server or Map-Resolver that runs until it is stopped.")
-        .after_help(HELP)
-        .subcommand_required(true)
-        .subcommand(check_command(alloc)?)?
-        .subcommand(serve_command(alloc)?)?
-        .subcommand(resolve_command(alloc)?)?
-        .subcommand(tell_command(alloc)?)
-}
-
-fn check_command<'a>(alloc: Global) -> Result<Command<'a>, AllocError> {
-    Command::new(alloc, "check")
-        .about("Say whether a configuration, settings of a resolver or a server, or keys are good.")
-        .arg(path(alloc, "config").help(
-            "The configuration, the settings or the keys, a TOML file",
-        ))?
-        .arg(keys(alloc).help("The keys of sites of the configuration, a TOML file"))
-}
-
-fn serve_command<'a>(alloc: Global) -> Result<Command<'a>, AllocError> {
-    Command::new(alloc, "serve")
-        .after_help(SERVE_HELP)
-        .about("Serve a configuration as a DDT node or a Map-Server.")
-        .arg(path(alloc, "config").help("The configuration, a TOML file"))?
-        .arg(
-            Arg::new(alloc, "address")
-                .action(ArgAction::Append)
-                .help("Where it serves, each a locator of the configuration"),
-        )?
-        .arg(
-            Arg::new(alloc, "settings")
-                .long("settings")
-                .value_name("FILE")
-                .action(ArgAction::Set)
-                .help("Answer the ITRs that this TOML file allows"),
-        )?
-        .arg(keys(alloc).help("Let ETRs register under the keys of this TOML file"))?
-        .arg(
-            Arg::new(alloc, "registrations")
-                .long("registrations")
-                .value_name("FILE")
-                .action(ArgAction::Set)
-                .requires_arg("keys")?
-                .help("Keep in this file, over a restart, what is registered"),
-        )?
-        .arg(control(alloc))?
-        .arg(
-            Arg::new(alloc, "watch")
-                .long("watch")
-                .action(ArgAction::SetTrue)
-                .help("Take the files up whenever one has changed"),
-        )?
-        .arg(
-            Arg::new(alloc, "share")
-                .long("share")
-                .action(ArgAction::SetTrue)
-                .conflicts_with("keys")?
-                .help("Let other processes serve at the same addresses"),
-        )
-}
-
-fn resolve_command<'a>(alloc: Global) -> Result<Command<'a>, AllocError> {
-    Command::new(alloc, "resolve")
-        .after_help(RESOLVE_HELP)
-        .about("Resolve for ITRs as a Map-Resolver.")
-        .arg(path(alloc, "settings").help("The settings, a TOML file"))?
-        .arg(control(alloc))
-}
-
-fn tell_command<'a>(alloc: Global) -> Result<Command<'a>, AllocError> {
-    Command::new(alloc, "tell")
-        .after_help(TELL_HELP)
-        .about("Tell a running daemon what to do, and print what it answers.")
-        .arg(path(alloc, "socket").help("The daemon's control socket"))?
-        .arg(
-            Arg::new(alloc, "word")
-                .required(true)
-                .action(ArgAction::Set)
-                .value_parser(WORDS.as_slice())
-                .help("What it is to do"),
-        )?
-        .arg(
-            Arg::new(alloc, "argument")
-                .action(ArgAction::Set)
-                .help("A prefix or an identifier, where the word takes one"),
-        )?
-        .arg(
-            Arg::new(alloc, "format")
-                .long("format")
-                .value_name("FORM")
-                .action(ArgAction::Set)
-                .value_parser(FORMS.as_slice())
-                .help("Print counts in this form"),
-        )
-}
-
-/// The option `--keys`, the path of the keys under which ETRs register.
-fn keys<'a>(alloc: Global) -> Arg<'a> {
-    Arg::new(alloc, "keys")
-        .long("keys")
-        .value_name("FILE")
-        .action(ArgAction::Set)
-}
-
-/// The option `--control`, the path of the control socket.
-fn control<'a>(alloc: Global) -> Arg<'a> {
-    Arg::new(alloc, "control")
-        .long("control")
-        .value_name("SOCKET")
-        .action(ArgAction::Set)
-        .help("Listen at this Unix socket for what it is told")
-}
-
-/// A required path.
-fn path<'a>(alloc: Global, name: &'a str) -> Arg<'a> {
-    Arg::new(alloc, name).required(true).action(ArgAction::Set)
 }

@@ -3,9 +3,8 @@
 use crate::command_line::TellArgs;
 use crate::exit_status::ExitStatus;
 use crate::log::{Log, Priority};
-use crate::printable::printable_lines;
-use crate::statistics_format::{Form, formed};
 use ddt_daemon::ControlWord;
+use ddt_daemon_text::{StatisticsFormat, formatted, printable_lines};
 use std::io::{Read, Write};
 use std::os::unix::net::UnixStream;
 use std::time::Duration;
@@ -39,7 +38,7 @@ fn fault_of(args: &TellArgs<'_>) -> Option<&'static str> {
     if args.argument == Some("") {
         return Some("the prefix or the identifier is empty");
     }
-    if args.form != Form::Lines && args.word != ControlWord::Stats {
+    if args.form != StatisticsFormat::Lines && args.word != ControlWord::Stats {
         return Some("only stats has another form than lines");
     }
     None
@@ -48,16 +47,21 @@ fn fault_of(args: &TellArgs<'_>) -> Option<&'static str> {
 /// Sends the command and reads the whole answer.
 fn ask(rt: &HostRuntime, args: &TellArgs<'_>) -> io::Result<Vec<u8>> {
     let mut stream = UnixStream::connect(rt, args.socket)?;
+    send(&mut stream, args)?;
+    let mut answer = Vec::new(rt.alloc());
+    stream.read_to_end(&mut answer)?;
+    Ok(answer)
+}
+
+/// Sends the command, with a limit for the wait for its answer.
+fn send(stream: &mut UnixStream, args: &TellArgs<'_>) -> io::Result<()> {
     stream.set_read_timeout(Some(Duration::from_secs(REPLY_TIMEOUT_SECONDS)))?;
     stream.write_all(args.word.text().as_bytes())?;
     if let Some(argument) = args.argument {
         stream.write_all(b" ")?;
         stream.write_all(argument.as_bytes())?;
     }
-    stream.write_all(b"\n")?;
-    let mut answer = Vec::new(rt.alloc());
-    stream.read_to_end(&mut answer)?;
-    Ok(answer)
+    stream.write_all(b"\n")
 }
 
 /// Prints an answer with its control characters escaped. It is a refusal if it begins with `refused`, isn't UTF-8, or
@@ -73,8 +77,12 @@ fn print_answer(rt: &HostRuntime, answer: &[u8], args: &TellArgs<'_>, log: &mut 
         log.refuse(rt, "the answer was cut");
     }
     let is_answer = is_whole(args.word, &text) && !text.starts_with("refused");
-    let form = if is_answer { args.form } else { Form::Lines };
-    let Ok(text) = formed(rt.alloc(), &text, form) else {
+    let form = if is_answer {
+        args.form
+    } else {
+        StatisticsFormat::Lines
+    };
+    let Ok(text) = formatted(rt.alloc(), &text, form) else {
         return ExitStatus::Refused;
     };
     if rt.stdout().write_all(text.as_bytes()).is_err() || !is_answer {

@@ -2,13 +2,14 @@
 
 use crate::control_socket::ControlRequest;
 use crate::daemon::{Daemon, Role};
-use crate::input_file::Message;
 use crate::log::{Log, Priority};
-use crate::map_resolver::ResolverRole;
-use crate::resolver_tables::{cache_text, flush_inside, lookup_text, servers_text};
+use crate::map_resolver::{ResolverRole, renew};
 use crate::server::ServerRole;
 use crate::system_clock::seconds;
+use ddt_cache::Moment;
 use ddt_daemon::{ControlWord, DaemonStatistics};
+use ddt_daemon_text::{Message, cache_text, entry_text, is_live, prefix_in, servers_text};
+use ddt_text::parse_xeid;
 
 impl<R: Role> Daemon<R> {
     /// Runs the next command at the control socket, if there is one. Returns whether it was `stop`.
@@ -72,14 +73,12 @@ impl<'a> ResolverRole<'a> {
         match request.word {
             Some(ControlWord::Flush) => self.flush(rt, &request.argument, log),
             Some(ControlWord::Servers) if request.argument.is_empty() => {
-                servers_text(rt, &self.near, now)
+                servers_text(rt.alloc(), self.near.servers().as_slice(), now)
             }
             Some(ControlWord::Cache) => {
-                cache_text(rt, self.resolver.resolver(), &request.argument, now)
+                cache_text(rt.alloc(), self.resolver.resolver(), &request.argument, now)
             }
-            Some(ControlWord::Lookup) => {
-                lookup_text(rt, &mut self.resolver, now, &request.argument)
-            }
+            Some(ControlWord::Lookup) => self.lookup(rt, &request.argument, now),
             Some(ControlWord::Sites) => {
                 format!(in rt.alloc(); "refused: only a server has sites\n")
             }
@@ -87,14 +86,21 @@ impl<'a> ResolverRole<'a> {
         }
     }
 
+    /// The longest match in the cache for an identifier, or the root's servers.
+    fn lookup(&mut self, rt: &HostRuntime, argument: &str, now: Moment) -> Message {
+        let Ok(xeid) = parse_xeid(argument.as_bytes()) else {
+            return format!(in rt.alloc(); "refused: {argument} is no identifier\n");
+        };
+        let (prefix, entry) = self.resolver.longest(now, xeid);
+        entry_text(rt.alloc(), prefix, &entry, now)
+    }
+
     /// Drops cached referrals: those inside a prefix, or without one all of them, and then the pending lookups too.
     fn flush(&mut self, rt: &HostRuntime, argument: &str, log: &mut Log) -> Message {
         if !argument.is_empty() {
-            let now = self.moments.now(rt);
-            return flush_inside(rt, &mut self.resolver, argument, now, log);
+            return self.flush_inside(rt, argument, log);
         }
-        let next = self.resolver.resolver().next_nonce();
-        match self.renew(rt, next) {
+        match renew(rt, &mut self.resolver, &mut self.near, &self.settings) {
             Ok(()) => {
                 log.say(rt, Priority::Notice, format!(in rt.alloc(); "flushed"));
                 format!(in rt.alloc(); "flushed\n")
@@ -104,5 +110,24 @@ impl<'a> ResolverRole<'a> {
                 format!(in rt.alloc(); "refused: {why}\n")
             }
         }
+    }
+    /// Drops the cached referrals inside a prefix.
+    fn flush_inside(&mut self, rt: &HostRuntime, argument: &str, log: &mut Log) -> Message {
+        let now = self.moments.now(rt);
+        let Some(within) = prefix_in(argument) else {
+            return format!(in rt.alloc(); "refused: {argument} is no prefix\n");
+        };
+        let Ok(entries) = self.resolver.resolver().inside(within) else {
+            return format!(in rt.alloc(); "refused: out of memory\n");
+        };
+        let mut count = 0u64;
+        for (prefix, entry) in entries.as_slice() {
+            if self.resolver.forget(*prefix) && is_live(entry, now) {
+                count = count.saturating_add(1);
+            }
+        }
+        let line = format!(in rt.alloc(); "flushed {argument}: {count}");
+        log.say(rt, Priority::Notice, line);
+        format!(in rt.alloc(); "flushed {count}\n")
     }
 }

@@ -4,11 +4,12 @@ use crate::file_identity::FileIdentity;
 use crate::poll::Poll;
 use crate::system_clock::pause;
 use ddt_daemon::ControlWord;
-use std::alloc::{AllocError, Global};
+use ddt_daemon_text::{ControlLine, LineState, Message};
+use std::alloc::Global;
 use std::io::{ErrorKind, Read, Write};
 use std::os::unix::fs::FileTypeExt;
 use std::os::unix::net::{UnixListener, UnixStream};
-use std::{fs, io, str};
+use std::{fs, io};
 
 /// The most clients at once; one more disconnects the oldest.
 const MOST_CLIENTS: usize = 8;
@@ -16,59 +17,22 @@ const MOST_CLIENTS: usize = 8;
 /// The most tries to write the unsent answers before the daemon ends, 10 milliseconds apart.
 const MOST_TRIES: u32 = 100;
 
-/// The most bytes of a line, with its end.
-const MOST_LINE: usize = 160;
-
 /// A connected client, and the bytes that it has sent.
 #[derive(Drop)]
 struct Client {
     stream: UnixStream,
-    line: [u8; MOST_LINE],
-    len: usize,
-}
-
-/// What has been read of a client's line.
-#[derive(Clone, Copy)]
-enum ReadState {
-    /// Not yet a whole line.
-    Partial,
-    /// A whole line.
-    Line,
-    /// The end of the stream, an error, or too many bytes: the client is disconnected.
-    Closed,
+    line: ControlLine,
 }
 
 impl Client {
-    /// Reads the bytes that are available.
-    fn read(&mut self) -> ReadState {
-        match self.stream.read(&mut self.line[self.len.min(MOST_LINE)..]) {
-            Ok(0) => ReadState::Closed,
-            Ok(count) => {
-                self.len = (self.len.saturating_add(count)).min(MOST_LINE);
-                self.read_state()
-            }
-            Err(error) if error.kind() == ErrorKind::WouldBlock => ReadState::Partial,
-            Err(_) => ReadState::Closed,
+    /// Reads the bytes that are available. Returns what has been received of the line.
+    fn read(&mut self) -> LineState {
+        match self.stream.read(self.line.room()) {
+            Ok(0) => LineState::Over,
+            Ok(count) => self.line.add(count),
+            Err(error) if error.kind() == ErrorKind::WouldBlock => LineState::Partial,
+            Err(_) => LineState::Over,
         }
-    }
-
-    /// Whether the bytes read have a whole line.
-    fn read_state(&self) -> ReadState {
-        match self.line[..self.len.min(MOST_LINE)]
-            .iter()
-            .position(|b| *b == b'\n')
-        {
-            Some(_) => ReadState::Line,
-            None if self.len == MOST_LINE => ReadState::Closed,
-            None => ReadState::Partial,
-        }
-    }
-
-    /// The line without its end; None if it isn't UTF-8.
-    fn line(&self) -> Option<&str> {
-        let bytes = &self.line[..self.len.min(MOST_LINE)];
-        let end = bytes.iter().position(|b| *b == b'\n')?;
-        str::from_utf8(&self.line[..end.min(MOST_LINE)]).ok()
     }
 }
 
@@ -124,30 +88,26 @@ pub struct Control {
 impl Control {
     /// Opens the control socket at `path`, and replaces one there at which no process listens any more. Refuses an
     /// empty path, and whatever the system refuses, with a message.
-    pub fn open(
-        rt: &HostRuntime,
-        path: Option<&str>,
-    ) -> Result<Control, Result<String, AllocError>> {
-        match Control::listening(rt, path) {
-            Ok(control) => Ok(control),
+    pub fn open(rt: &HostRuntime, path: Option<&str>) -> Result<Control, Message> {
+        let Some(path) = path else {
+            return Ok(Control::new(rt.alloc(), None, None));
+        };
+        match listen_at(rt, path) {
+            Ok((listener, file)) => Ok(Control::new(rt.alloc(), Some(listener), Some(file))),
             Err(error) => Err(format!(in rt.alloc(); "the control socket: {error}")),
         }
     }
 
-    fn listening(rt: &HostRuntime, path: Option<&str>) -> io::Result<Control> {
-        let mut control = Control {
-            alloc: rt.alloc(),
-            listener: None,
-            file: None,
-            clients: Vec::new(rt.alloc()),
-            unsent: Vec::new(rt.alloc()),
+    /// A control socket without clients.
+    fn new(alloc: Global, listener: Option<UnixListener>, file: Option<FileIdentity>) -> Control {
+        Control {
+            alloc,
+            listener,
+            file,
+            clients: Vec::new(alloc),
+            unsent: Vec::new(alloc),
             refused_in: None,
-        };
-        if let Some(path) = path {
-            control.listener = Some(listen(rt, path)?);
-            control.file = Some(FileIdentity::of(&fs::symlink_metadata(rt, path)?));
         }
-        Ok(control)
     }
 
     /// Removes the socket's file at `path`, unless another file has replaced it.
@@ -217,7 +177,7 @@ impl Control {
 
     /// Writes an answer as far as the stream takes it, and keeps the rest. An answer for which there was no memory is
     /// lost; so is the oldest unsent answer if there are too many.
-    pub fn answer(&mut self, request: ControlRequest, answer: Result<String, AllocError>) {
+    pub fn answer(&mut self, request: ControlRequest, answer: Message) {
         let Ok(answer) = answer else {
             return;
         };
@@ -241,12 +201,12 @@ impl Control {
             return None;
         }
         match self.clients[place].read() {
-            ReadState::Partial => None,
-            ReadState::Closed => {
+            LineState::Partial => None,
+            LineState::Over => {
                 let _client = self.clients.remove(place);
                 None
             }
-            ReadState::Line => {
+            LineState::Whole => {
                 let client = self.clients.remove(place);
                 request_of(self.alloc, client)
             }
@@ -276,13 +236,18 @@ impl Control {
         }
         let _added = self.clients.push(Client {
             stream,
-            line: [0; MOST_LINE],
-            len: 0,
+            line: ControlLine::new(),
         });
     }
 }
 
-/// Listens at `path`.
+/// Listens at `path`. Returns also the identity of the socket's file.
+fn listen_at(rt: &HostRuntime, path: &str) -> io::Result<(UnixListener, FileIdentity)> {
+    let listener = listen(rt, path)?;
+    let metadata = fs::symlink_metadata(rt, path)?;
+    Ok((listener, FileIdentity::of(&metadata)))
+}
+
 fn listen(rt: &HostRuntime, path: &str) -> io::Result<UnixListener> {
     // For an empty path the system would choose an abstract address, which any process can connect to.
     if path.is_empty() {
@@ -306,16 +271,9 @@ fn listen_again(rt: &HostRuntime, path: &str) -> io::Result<UnixListener> {
     UnixListener::bind(rt, path)
 }
 
-/// The command on a client's line: a word, and the text after the first space. None if out of memory; the client is
-/// then disconnected.
+/// The command on a client's line. None if out of memory; the client is then disconnected.
 fn request_of(alloc: Global, client: Client) -> Option<ControlRequest> {
-    let line = client.line().unwrap_or("");
-    let (word, argument) = match line.split_once(' ') {
-        // A word with a space and nothing after it is unknown.
-        Some((_word, "")) => ("", ""),
-        Some(parts) => parts,
-        None => (line, ""),
-    };
+    let (word, argument) = client.line.parts();
     let word = ControlWord::of(word);
     let argument = String::from_str(alloc, argument).ok()?;
     Some(ControlRequest {

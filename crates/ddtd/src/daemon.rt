@@ -2,12 +2,12 @@
 
 use crate::control_socket::{Control, ControlRequest};
 use crate::exit_status::ExitStatus;
-use crate::input_file::Message;
 use crate::log::{Log, Priority};
 use crate::poll::Poll;
 use crate::system_clock::{pause, seconds};
 use crate::systemd_notify::{State, notify};
 use ddt_daemon::{DaemonStatistics, Times};
+use ddt_daemon_text::Message;
 
 /// The role of a daemon: a server (DDT node or Map-Server) or a Map-Resolver.
 pub trait Role: Drop {

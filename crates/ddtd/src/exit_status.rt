@@ -1,7 +1,7 @@
 //! The exit status of the program.
 
 /// The exit status of the program.
-#[derive(Clone, Copy, Debug, PartialEq, Eq)]
+#[derive(Clone, Copy)]
 pub enum ExitStatus {
     /// 0: the command was answered, or the daemon was stopped.
     Answered,

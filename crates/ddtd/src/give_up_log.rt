@@ -1,15 +1,10 @@
 //! Logs lookups that gave up, with the reason and the zone, at a limited rate.
 
 use crate::log::{Log, Priority};
-use crate::log_rate_limit::LogRateLimit;
-use crate::resolver_tables::push_locators;
 use ddt_cache::{Entry, Moment};
 use ddt_daemon::{GivenUpLookup, MapResolver};
-use ddt_resolver::Why;
-use ddt_text::{write_prefix, write_xeid};
+use ddt_daemon_text::{LogRateLimit, Message, gave_up_text};
 use ddt_trie::TrieMap;
-use std::alloc::AllocError;
-use std::str;
 
 /// The most lookups logged in a round.
 const MOST_LOOKUPS: u32 = 64;
@@ -38,30 +33,14 @@ pub fn log_give_ups(
     }
 }
 
-/// The line for a lookup: its XEID, the reason, and the longest cached zone for it with its servers.
+/// The line for a lookup, with the longest cached zone for it.
 fn line_of(
     rt: &HostRuntime,
     resolver: &mut MapResolver<TrieMap<Entry>>,
     now: Moment,
     gave_up: GivenUpLookup,
-) -> Result<String, AllocError> {
-    let (zone, entry) = resolver.longest(now, gave_up.xeid);
-    let mut line = Vec::from_slice(rt.alloc(), b"gave up on ")?;
-    write_xeid(&mut line, gave_up.xeid)?;
-    line.extend_from_slice(b": ")?;
-    line.extend_from_slice(why_text(gave_up.why).as_bytes())?;
-    line.extend_from_slice(b", zone ")?;
-    write_prefix(&mut line, zone)?;
-    line.extend_from_slice(b" at")?;
-    push_locators(&mut line, entry.servers.as_slice())?;
-    String::from_str(rt.alloc(), str::from_utf8(&line).unwrap_or(""))
-}
-
-fn why_text(why: Why) -> &'static str {
-    match why {
-        Why::NoReply => "no reply",
-        Why::Loop => "a referral that leads nowhere",
-        Why::NotAuthoritative => "no server is in charge",
-        Why::Exhausted => "no nonce is left",
-    }
+) -> Message {
+    let GivenUpLookup { xeid, why } = gave_up;
+    let (zone, entry) = resolver.longest(now, xeid);
+    gave_up_text(rt.alloc(), xeid, why, zone, entry.servers.as_slice())
 }

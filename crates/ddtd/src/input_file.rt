@@ -1,6 +1,7 @@
 //! Reading a file: it must be a regular file, and not larger than its limit.
 
-use std::alloc::{AllocError, Global};
+use ddt_daemon_text::Message;
+use std::alloc::Global;
 use std::fs::File;
 use std::io::Read;
 use std::os::unix::fs::PermissionsExt;
@@ -14,9 +15,6 @@ pub const MOST_SETTINGS: u64 = 1_048_576;
 
 /// The most bytes of a file of keys: 64 MiB.
 pub const MOST_KEYS: u64 = 67_108_864;
-
-/// A message for the log or the user; an error if there is no memory for it.
-pub type Message = Result<String, AllocError>;
 
 /// The mode bits that give users other than the owner any access.
 const OTHERS: u32 = 0o077;

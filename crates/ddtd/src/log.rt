@@ -1,6 +1,6 @@
 //! The log: lines on standard error, each with its priority in front, as journald reads it.
 
-use crate::printable::printable;
+use ddt_daemon_text::printable;
 use libc::net::{POLLOUT, poll};
 use libc::types::pollfd;
 use std::alloc::AllocError;
@@ -25,7 +25,7 @@ const MOST_FRONT: usize = MOST_TEXT - 4;
 const MOST_AFTER_BACKSLASH: usize = 5;
 
 /// The priority of a line.
-#[derive(Clone, Copy, Debug, PartialEq, Eq)]
+#[derive(Clone, Copy)]
 pub enum Priority {
     /// The daemon can't run.
     Error,
@@ -48,7 +48,7 @@ impl Priority {
 
 /// The log. A line of more than 4,096 bytes is cut, and then ends in ` ...`. A line for which there is no memory, or
 /// which standard error doesn't take at once, is lost and counted.
-#[derive(Clone, Copy, Debug)]
+#[derive(Clone, Copy)]
 pub struct Log {
     lost: u64,
 }

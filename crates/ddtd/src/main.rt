@@ -8,7 +8,6 @@
 
 mod check;
 mod command_line;
-mod configuration;
 mod control_client;
 mod control_commands;
 mod control_socket;
@@ -20,30 +19,23 @@ mod give_up_log;
 mod input_file;
 mod loading;
 mod log;
-mod log_rate_limit;
 mod map_resolver;
 mod poll;
-mod printable;
 mod receive_buffer;
 mod registering;
 mod registration_file;
-mod registration_text;
 mod reload;
 mod reply_addresses;
-mod resolver_tables;
 mod server;
 mod server_timeouts;
-mod settings_warnings;
 mod shared_socket;
 mod site_changes;
 mod site_keys;
 mod sockets;
 mod standard_streams;
-mod statistics_format;
 mod system_clock;
 mod systemd_notify;
 mod unbound_locators;
-mod unknown_keys;
 mod unrecognized_afi_log;
 
 use command_line::{Invocation, parse_command_line};

@@ -5,19 +5,17 @@ use crate::control_socket::ControlRequest;
 use crate::daemon::{Role, run};
 use crate::exit_status::ExitStatus;
 use crate::give_up_log::log_give_ups;
-use crate::input_file::Message;
 use crate::loading::load_settings;
 use crate::log::{Log, Priority};
-use crate::log_rate_limit::LogRateLimit;
 use crate::poll::Poll;
 use crate::server_timeouts::{NearWires, TimeoutRound, log_silence, silent_count};
-use crate::settings_warnings::warnings_of;
 use crate::sockets::{FarWires, ResolverWires, Sockets};
 use crate::system_clock::Moments;
 use crate::unrecognized_afi_log::{MOST_MESSAGES, end_period, log_unrecognized};
 use ddt_cache::{Entry, Moment};
 use ddt_config::settings::Settings;
 use ddt_daemon::{CountedWires, DaemonStatistics, MapResolver, ResolverStatistics};
+use ddt_daemon_text::{Addresses, LogRateLimit, Message, warnings_of};
 use ddt_path::Locator;
 use ddt_resolver::Resolver;
 use ddt_sockets::nonces::RandomNonces;
@@ -56,8 +54,20 @@ pub fn resolve(rt: &HostRuntime, args: &ResolveArgs<'_>, log: &mut Log) -> ExitS
     run(rt, role, args.control, log)
 }
 
-/// Binds a socket at each address that has none.
+/// Binds a socket of each kind at each address that has none: to listen, to ask, and to forward requests of ITRs.
 pub fn bind_addresses(
+    rt: &HostRuntime,
+    addresses: &[Locator],
+    near: &mut ResolverWires,
+    far: &mut FarWires,
+) -> Result<(), Message> {
+    bind_each(rt, addresses, &mut near.listening)?;
+    bind_each(rt, addresses, &mut near.asking)?;
+    bind_each(rt, addresses, &mut far.sockets)
+}
+
+/// Binds a socket at each address that has none.
+fn bind_each(
     rt: &HostRuntime,
     addresses: &[Locator],
     sockets: &mut Sockets,
@@ -70,6 +80,16 @@ pub fn bind_addresses(
     Ok(())
 }
 
+/// Wires with a socket of each kind at each address.
+fn wires_at(rt: &HostRuntime, addresses: &[Locator]) -> Result<(ResolverWires, FarWires), Message> {
+    let mut near = ResolverWires::new(rt.alloc());
+    let mut far = FarWires::new(rt.alloc());
+    match bind_addresses(rt, addresses, &mut near, &mut far) {
+        Ok(()) => Ok((near, far)),
+        Err(why) => Err(why),
+    }
+}
+
 /// A generator of unpredictable nonces. Fails if the system has no random numbers.
 fn nonces(rt: &HostRuntime) -> Result<ChaCha20Rng, Message> {
     match make_rng::<ChaCha20Rng, _>(rt) {
@@ -79,7 +99,7 @@ fn nonces(rt: &HostRuntime) -> Result<ChaCha20Rng, Message> {
 }
 
 /// A resolver with an empty cache, which knows only the roots. Its first request has this nonce.
-pub fn resolver_of(
+fn resolver_of(
     rt: &HostRuntime,
     settings: &Settings,
     nonce: u64,
@@ -93,6 +113,36 @@ pub fn resolver_of(
     Ok(Resolver::new(rt.alloc(), settings.roots, *me, nonce))
 }
 
+fn map_resolver_of(
+    rt: &HostRuntime,
+    settings: &Settings,
+) -> Result<MapResolver<TrieMap<Entry>>, Message> {
+    let resolver = resolver_of(rt, settings, 1)?;
+    match MapResolver::new(rt.alloc(), resolver) {
+        Ok(resolver) => Ok(resolver),
+        Err(_) => Err(Err(AllocError)),
+    }
+}
+
+/// Replaces a resolver with one of these settings and an empty cache, which continues its nonces. Pending lookups end
+/// without an answer.
+pub fn renew(
+    rt: &HostRuntime,
+    resolver: &mut MapResolver<TrieMap<Entry>>,
+    near: &mut NearWires,
+    settings: &Settings,
+) -> Result<(), Message> {
+    let next = resolver.resolver().next_nonce();
+    let renewed = resolver_of(rt, settings, next)?;
+    match resolver.renew(renewed) {
+        Ok(()) => {
+            near.forget_all();
+            Ok(())
+        }
+        Err(refused) => Err(Err(refused)),
+    }
+}
+
 /// Logs the warnings about settings that are adopted.
 fn warn(rt: &HostRuntime, path: &str, settings: &Settings, log: &mut Log) {
     let Ok(warnings) = warnings_of(rt.alloc(), settings) else {
@@ -104,39 +154,60 @@ fn warn(rt: &HostRuntime, path: &str, settings: &Settings, log: &mut Log) {
     }
 }
 
+/// A Map-Resolver without wires.
+#[derive(Drop)]
+struct UnwiredResolver {
+    buffer: Vec<u8>,
+    moments: Moments,
+    resolver: MapResolver<TrieMap<Entry>>,
+    generator: ChaCha20Rng,
+}
+
+impl UnwiredResolver {
+    /// Starts with an empty cache.
+    fn start(rt: &HostRuntime, settings: &Settings) -> Result<UnwiredResolver, Message> {
+        let Ok(buffer) = Vec::from_elem(rt.alloc(), 0u8, MOST_BYTES) else {
+            return Err(Err(AllocError));
+        };
+        let moments = Moments::new(rt)?;
+        let resolver = map_resolver_of(rt, settings)?;
+        match nonces(rt) {
+            Ok(generator) => Ok(UnwiredResolver {
+                buffer,
+                moments,
+                resolver,
+                generator,
+            }),
+            Err(why) => Err(why),
+        }
+    }
+}
+
 impl<'a> ResolverRole<'a> {
     /// Reads the settings and binds the sockets.
     fn start(rt: &HostRuntime, path: &'a str) -> Result<ResolverRole<'a>, Message> {
         let settings = load_settings(rt, path)?;
-        let listen = settings.listen.as_slice();
-        let mut near = ResolverWires::new(rt.alloc());
-        let mut far = FarWires {
-            sockets: Sockets::new(rt.alloc(), 0),
-        };
-        bind_addresses(rt, listen, &mut near.listening)?;
-        bind_addresses(rt, listen, &mut near.asking)?;
-        bind_addresses(rt, listen, &mut far.sockets)?;
-        let Ok(buffer) = Vec::from_elem(rt.alloc(), 0u8, MOST_BYTES) else {
-            return Err(Err(AllocError));
-        };
-        let Ok(moments) = Moments::new(rt) else {
-            return Err(format!(in rt.alloc(); "the system tells no time"));
-        };
-        let Ok(resolver) = MapResolver::new(rt.alloc(), resolver_of(rt, &settings, 1)?) else {
-            return Err(Err(AllocError));
-        };
-        Ok(ResolverRole {
-            path,
-            resolver,
-            settings,
-            near: RandomNonces::new(rt.alloc(), CountedWires::new(near), nonces(rt)?, false),
-            far: CountedWires::new(far),
-            is_far_ready: false,
-            buffer,
-            moments,
-            give_ups: LogRateLimit::new(),
-            unrecognized: LogRateLimit::new(),
-        })
+        let (near, far) = wires_at(rt, settings.listen.as_slice())?;
+        match UnwiredResolver::start(rt, &settings) {
+            Ok(unwired) => Ok(ResolverRole {
+                path,
+                resolver: unwired.resolver,
+                settings,
+                near: RandomNonces::new(
+                    rt.alloc(),
+                    CountedWires::new(near),
+                    unwired.generator,
+                    false,
+                ),
+                far: CountedWires::new(far),
+                is_far_ready: false,
+                buffer: unwired.buffer,
+                moments: unwired.moments,
+                give_ups: LogRateLimit::new(),
+                unrecognized: LogRateLimit::new(),
+            }),
+            Err(why) => Err(why),
+        }
     }
 
     /// Receives a packet. Returns whether there was one, or one was lost.
@@ -200,19 +271,6 @@ impl<'a> ResolverRole<'a> {
             log_unrecognized(rt, said, one, log);
         }
     }
-
-    /// Replaces the resolver with one of the same settings and an empty cache, whose first nonce is `next`. Pending
-    /// lookups end without an answer.
-    pub fn renew(&mut self, rt: &HostRuntime, next: u64) -> Result<(), Message> {
-        let resolver = resolver_of(rt, &self.settings, next)?;
-        match self.resolver.renew(resolver) {
-            Ok(()) => {
-                self.near.forget_all();
-                Ok(())
-            }
-            Err(refused) => Err(Err(refused)),
-        }
-    }
 }
 
 impl<'a> Role for ResolverRole<'a> {
@@ -248,11 +306,8 @@ impl<'a> Role for ResolverRole<'a> {
     }
 
     fn status_text(&self, rt: &HostRuntime) -> Message {
-        let mut text = format!(in rt.alloc(); "resolving")?;
-        for at in self.settings.listen.as_slice() {
-            text.push_str(&format!(in rt.alloc(); " {}", ip_of(*at))?)?;
-        }
-        Ok(text)
+        let addresses = Addresses(self.settings.listen.as_slice());
+        format!(in rt.alloc(); "resolving{addresses}")
     }
 
     fn log_warnings(&mut self, rt: &HostRuntime, log: &mut Log) {

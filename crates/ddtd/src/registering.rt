@@ -1,16 +1,14 @@
 //! What a server does for registrations beside its rounds: the file of registrations, the log, the counts and `sites`.
 
 use crate::command_line::ServeArgs;
-use crate::input_file::Message;
 use crate::log::Log;
 use crate::registration_file::RegistrationFile;
-use crate::site_changes::{LoggedSites, registered_count, sites_text};
-use crate::site_keys::prefix_text;
-use crate::system_clock::Clock;
+use crate::site_changes::LoggedSites;
 use ddt_daemon::ServerStatistics;
+use ddt_daemon_text::{Message, not_added_text, registered_count, sites_text};
 use ddt_map_server::{MapServer, RegisterCounts};
-use ddt_path::{Prefix, Prefixed};
-use ddt_registrar::{KeyedSite, NotAdded, Registrar};
+use ddt_path::Prefixed;
+use ddt_registrar::{Clock, KeyedSite, Registrar};
 use ddt_trie::HashedMap;
 use std::alloc::{AllocError, Global};
 
@@ -36,16 +34,6 @@ pub fn registrar_of(
         }
     }
     Ok(registrar)
-}
-
-/// The message for a site that a registrar refuses.
-fn not_added_text(alloc: Global, prefix: Prefix, fault: NotAdded) -> Result<String, AllocError> {
-    let prefix = prefix_text(alloc, prefix)?;
-    match fault {
-        NotAdded::Twice => format!(in alloc; "{prefix} is a site of two authorities, and has keys"),
-        NotAdded::Full => format!(in alloc; "{prefix} is one site with keys too many"),
-        NotAdded::Memory => format!(in alloc; "out of memory"),
-    }
 }
 
 impl<'a> Registering<'a> {

@@ -1,27 +1,24 @@
 //! The file of registrations, which keeps them over a restart.
 //!
-//! After a header, the lines of a site are appended whenever its registrations have changed, so its last lines count.
-//! Once the file has grown a lot, a successor is written with the lines of each site once, some sites in each round,
-//! and renamed into its place.
+//! The lines of a site are appended whenever its registrations have changed. Once the file has grown a lot, a successor
+//! is written with the lines of each site once, some sites in each round, and renamed into its place.
 
-use crate::input_file::{Message, read};
+use crate::input_file::read;
 use crate::log::{Log, Priority};
-use crate::registration_text::{SavedSite, push_site, site_in};
-use crate::system_clock::Clock;
-use ddt_path::{Prefix, Prefixed};
-use ddt_registrar::{KeyedSite, Registrar};
-use ddt_trie::{HashedMap, MOST_ENTRIES, PrefixMap};
+use ddt_daemon_text::Message;
+use ddt_path::Prefix;
+use ddt_registrar::{
+    Clock, KeyedSite, NotRestored, Registrar, SAVED_HEADER, push_site, restore_sites,
+};
+use ddt_trie::HashedMap;
 use std::alloc::{AllocError, Global};
 use std::fs::{File, OpenOptions};
 use std::io::{ErrorKind, Write};
 use std::os::unix::fs::OpenOptionsExt;
-use std::{fs, io, str};
+use std::{fs, io};
 
 /// The most bytes of a file of registrations that is read: 1 GiB.
 const MOST_BYTES: u64 = 1_073_741_824;
-
-/// The first line.
-const HEADER: &str = "ddtd registrations 1\n";
 
 /// The file's mode: only its owner reads and writes it, since it has digests of secrets.
 const MODE: u32 = 0o600;
@@ -58,13 +55,6 @@ pub struct RegistrationFile<'a> {
     tried: Option<u64>,
 }
 
-/// The sites of a file of registrations, and the number of lines that couldn't be read.
-#[derive(Drop)]
-struct SavedSites {
-    sites: Vec<SavedSite>,
-    unread: u64,
-}
-
 /// Restores the registrations of sites from a file, by the last lines of each site. Returns the number of lines that
 /// couldn't be read. Without a file, nothing was registered.
 pub fn restore(
@@ -81,26 +71,13 @@ pub fn restore(
         _ => {}
     }
     let bytes = read(rt, path, MOST_BYTES)?;
-    if is_cut(&bytes) {
-        return Ok(1);
+    match restore_sites(rt.alloc(), &bytes, sites, clock) {
+        Ok(unread) => Ok(unread),
+        Err(NotRestored::Header) => {
+            Err(format!(in rt.alloc(); "{path}: no file of registrations"))
+        }
+        Err(NotRestored::Memory) => Err(Err(AllocError)),
     }
-    let Some(lines) = bytes.strip_prefix(HEADER.as_bytes()) else {
-        return Err(format!(in rt.alloc(); "{path}: no file of registrations"));
-    };
-    let kept = match saved_sites_in(rt.alloc(), lines, clock) {
-        Ok(kept) => kept,
-        Err(refused) => return Err(Err(refused)),
-    };
-    match restore_all(rt.alloc(), kept.sites, sites) {
-        Ok(()) => Ok(kept.unread),
-        Err(refused) => Err(Err(refused)),
-    }
-}
-
-/// Whether a file has only a part of its first line, or only zeros, as after a loss of power.
-fn is_cut(bytes: &[u8]) -> bool {
-    HEADER.as_bytes().starts_with(bytes) && bytes.len() < HEADER.len()
-        || bytes.iter().all(|byte| *byte == 0)
 }
 
 /// Creates a file at a path. A file that is there is removed, and no link is followed.
@@ -112,89 +89,6 @@ fn new_file(rt: &HostRuntime, path: &str) -> io::Result<File> {
     let mut options = OpenOptions::new();
     options.write(true).create_new(true).mode(MODE);
     options.open(rt, path)
-}
-
-/// The sites whose lines are all there.
-fn saved_sites_in(alloc: Global, bytes: &[u8], clock: Clock) -> Result<SavedSites, AllocError> {
-    let mut kept = SavedSites {
-        sites: Vec::new(alloc),
-        unread: 0,
-    };
-    let mut open = None;
-    for line in bytes.split(|byte| *byte == b'\n') {
-        let line = str::from_utf8(line).unwrap_or("?");
-        open = match open {
-            Some(site) => kept.next_line(alloc, site, line, clock)?,
-            None => kept.first_line(alloc, line),
-        };
-    }
-    if open.is_some() {
-        kept.unread = kept.unread.saturating_add(1);
-    }
-    Ok(kept)
-}
-
-impl SavedSites {
-    /// Reads a line that must be the first of a site. Returns the site, which is open until its line `end`.
-    fn first_line(&mut self, alloc: Global, line: &str) -> Option<SavedSite> {
-        let site = site_in(alloc, line);
-        if site.is_none() && !line.is_empty() {
-            self.unread = self.unread.saturating_add(1);
-        }
-        site
-    }
-
-    /// Reads a line of an open site. Returns the site that is open after it.
-    fn next_line(
-        &mut self,
-        alloc: Global,
-        mut site: SavedSite,
-        line: &str,
-        clock: Clock,
-    ) -> Result<Option<SavedSite>, AllocError> {
-        if line == "end" {
-            self.sites.push(site)?;
-            return Ok(None);
-        }
-        match site.add(alloc, line, clock) {
-            Some(()) => Ok(Some(site)),
-            // The whole site is lost.
-            None => {
-                self.unread = self.unread.saturating_add(1);
-                Ok(site_in(alloc, line))
-            }
-        }
-    }
-}
-
-fn restore_all(
-    alloc: Global,
-    kept: Vec<SavedSite>,
-    sites: &mut [KeyedSite],
-) -> Result<(), AllocError> {
-    let places = places_of(alloc, sites)?;
-    for site in kept {
-        let prefix = site.prefix;
-        if let Some(place) = places.get(prefix)
-            && let Some(of_keys) = sites.get_mut(*place as usize)
-        {
-            site.restore(of_keys)?;
-        }
-    }
-    Ok(())
-}
-
-/// The place of each site by its prefix.
-fn places_of(alloc: Global, sites: &[KeyedSite]) -> Result<HashedMap<u32>, AllocError> {
-    let mut places = HashedMap::empty(alloc);
-    let mut place = 0u32;
-    for site in sites {
-        if places.len() >= MOST_ENTRIES || places.insert(site.prefix(), place).is_err() {
-            return Err(AllocError);
-        }
-        place = place.saturating_add(1);
-    }
-    Ok(places)
 }
 
 impl<'a> RegistrationFile<'a> {
@@ -354,10 +248,10 @@ impl<'a> RegistrationFile<'a> {
     /// Starts a successor.
     fn begin(&mut self, rt: &HostRuntime, path: &str) -> io::Result<()> {
         let mut file = new_file(rt, &format!(in rt.alloc(); "{path}.new")?)?;
-        file.write_all(HEADER.as_bytes())?;
+        file.write_all(SAVED_HEADER.as_bytes())?;
         self.successor = Some(Successor {
             file,
-            len: HEADER.len() as u64,
+            len: SAVED_HEADER.len() as u64,
             next: 0,
         });
         Ok(())
@@ -376,12 +270,7 @@ impl<'a> RegistrationFile<'a> {
         };
         let first = successor.next.min(sites.len());
         let last = first.saturating_add(MOST_SITES).min(sites.len());
-        self.text.clear();
-        for site in &sites[first..last] {
-            if site.has_registered || !site.nonces.is_empty() {
-                push_site(&mut self.text, site, clock)?;
-            }
-        }
+        self.prepare_sites(&sites[first..last], clock)?;
         successor.file.write_all(self.text.as_slice())?;
         successor.len = successor.len.saturating_add(self.text.len() as u64);
         successor.next = last;
@@ -393,6 +282,17 @@ impl<'a> RegistrationFile<'a> {
         self.first = successor.len;
         self.len = successor.len;
         self.file = Some(successor.file);
+        Ok(())
+    }
+
+    /// Prepares the lines of the sites of which there is something to keep.
+    fn prepare_sites(&mut self, sites: &[KeyedSite], clock: Clock) -> Result<(), AllocError> {
+        self.text.clear();
+        for site in sites {
+            if site.has_registered || !site.nonces.is_empty() {
+                push_site(&mut self.text, site, clock)?;
+            }
+        }
         Ok(())
     }
 

@@ -4,15 +4,11 @@
 //! `Daemon::reload` has the steps that both roles share. `ServerRole::reload_configuration` and
 //! `ResolverRole::reload_settings` have those of one role.
 
-use crate::configuration::fault_text;
 use crate::daemon::{Daemon, Role};
-use crate::input_file::{Message, with_path};
-use crate::loading::{
-    Loaded, load_configuration, load_server_settings, load_settings, name_text, role_text,
-};
+use crate::input_file::with_path;
+use crate::loading::{load_configuration, load_server_settings, load_settings};
 use crate::log::{Log, Priority};
-use crate::map_resolver::{ResolverRole, bind_addresses, resolver_of};
-use crate::printable::printable;
+use crate::map_resolver::{ResolverRole, bind_addresses, renew};
 use crate::registering::registrar_of;
 use crate::server::{ServerRole, addresses_in, bind_locators, locators_served, log_unknown_keys};
 use crate::site_keys::load_keyed_sites;
@@ -20,6 +16,7 @@ use crate::system_clock::seconds;
 use crate::systemd_notify::{State, notify};
 use ddt_config::settings::Settings;
 use ddt_config::{PlacedFault, ServerConfig};
+use ddt_daemon_text::{LoadedConfiguration, Message, fault_text, name_text, printable, role_text};
 use ddt_path::Locator;
 use ddt_registrar::Registrar;
 use ddt_trie::HashedMap;
@@ -68,14 +65,7 @@ impl<'a> ServerRole<'a> {
         let loaded = load_configuration(rt, self.args.config)?;
         let settings = load_server_settings(rt, self.args.settings)?;
         log_unknown_keys(rt, self.args.config, loaded.unknown.as_slice(), log);
-        self.expect_group(rt, &loaded.config)?;
-        let addresses = addresses_in(rt, self.args, &loaded.config)?;
-        let sites = load_keyed_sites(rt, self.args.keys, &loaded.config)?;
-        let registrar = registrar_of(rt.alloc(), sites)?;
-        let adopted = self.adopt_at(rt, loaded, registrar, &addresses);
-        // Only the sockets of the configuration that is now in force stay open.
-        let places = locators_served(&addresses, self.server.server().locators());
-        self.wires.wires.wires.sockets.keep(places);
+        let adopted = self.adopt(rt, loaded);
         if adopted.is_ok() {
             self.settings = settings;
             self.unbound.clear();
@@ -83,6 +73,31 @@ impl<'a> ServerRole<'a> {
             self.registering.renew(rt, sites, log);
         }
         adopted
+    }
+
+    /// Adopts a configuration with the keys of its sites.
+    fn adopt(&mut self, rt: &HostRuntime, loaded: LoadedConfiguration) -> Result<(), Message> {
+        let (addresses, registrar) = self.prepare(rt, &loaded.config)?;
+        let adopted = self.adopt_at(rt, loaded, registrar, &addresses);
+        // Only the sockets of the configuration that is now in force stay open.
+        let places = locators_served(&addresses, self.server.server().locators());
+        self.wires.wires.wires.sockets.keep(places);
+        adopted
+    }
+
+    /// The addresses to serve a configuration at, from the arguments, and a registrar of its sites with keys.
+    fn prepare(
+        &self,
+        rt: &HostRuntime,
+        config: &ServerConfig,
+    ) -> Result<(Vec<Locator>, Registrar<HashedMap<u32>>), Message> {
+        self.expect_group(rt, config)?;
+        let addresses = addresses_in(rt, self.args, config)?;
+        let sites = load_keyed_sites(rt, self.args.keys, config)?;
+        match registrar_of(rt.alloc(), sites) {
+            Ok(registrar) => Ok((addresses, registrar)),
+            Err(why) => Err(why),
+        }
     }
 
     /// Refuses a configuration of another group or kind than the running one.
@@ -108,7 +123,7 @@ impl<'a> ServerRole<'a> {
     fn adopt_at(
         &mut self,
         rt: &HostRuntime,
-        loaded: Loaded,
+        loaded: LoadedConfiguration,
         registrar: Registrar<HashedMap<u32>>,
         addresses: &[Locator],
     ) -> Result<(), Message> {
@@ -132,7 +147,10 @@ impl<'a> ResolverRole<'a> {
     /// Reads the settings again and adopts them. If they are refused, all stays as it is.
     pub fn reload_settings(&mut self, rt: &HostRuntime) -> Result<(), Message> {
         let settings = load_settings(rt, self.path)?;
-        let adopted = self.adopt_settings(rt, settings);
+        let adopted = self.adopt_settings(rt, &settings);
+        if adopted.is_ok() {
+            self.settings = settings;
+        }
         // Only the sockets of the settings that are now in force stay open.
         let listen = self.settings.listen.as_slice();
         let near = &mut self.near.wires_mut().wires;
@@ -142,25 +160,17 @@ impl<'a> ResolverRole<'a> {
         adopted
     }
 
-    /// Binds a socket at each new address, and adopts the settings. The cache and the pending lookups stay if the roots
-    /// and the resolver's first own address are the same.
-    fn adopt_settings(&mut self, rt: &HostRuntime, settings: Settings) -> Result<(), Message> {
+    /// Binds a socket at each new address, and adopts the settings but for keeping them. The cache and the pending
+    /// lookups stay if the roots and the resolver's first own address are the same.
+    fn adopt_settings(&mut self, rt: &HostRuntime, settings: &Settings) -> Result<(), Message> {
         let listen = settings.listen.as_slice();
         let near = &mut self.near.wires_mut().wires;
-        bind_addresses(rt, listen, &mut near.listening)?;
-        bind_addresses(rt, listen, &mut near.asking)?;
-        bind_addresses(rt, listen, &mut self.far.wires.sockets)?;
+        bind_addresses(rt, listen, near, &mut self.far.wires)?;
         let is_same = settings.roots == self.settings.roots
             && listen.first() == self.settings.listen.as_slice().first();
-        if !is_same {
-            let next = self.resolver.resolver().next_nonce();
-            let resolver = resolver_of(rt, &settings, next)?;
-            if let Err(refused) = self.resolver.renew(resolver) {
-                return Err(Err(refused));
-            }
-            self.near.forget_all();
+        if is_same {
+            return Ok(());
         }
-        self.settings = settings;
-        Ok(())
+        renew(rt, &mut self.resolver, &mut self.near, settings)
     }
 }

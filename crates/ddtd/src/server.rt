@@ -1,31 +1,32 @@
 //! `ddtd serve CONFIG [ADDRESS..]`: the role of a server, a DDT node or a Map-Server.
 
 use crate::command_line::ServeArgs;
-use crate::configuration::fault_text;
 use crate::control_socket::ControlRequest;
 use crate::daemon::{Role, run};
 use crate::exit_status::ExitStatus;
 use crate::file_watch::Watches;
-use crate::input_file::{Message, with_path};
-use crate::loading::{Summary, load_configuration, load_server_settings, name_text};
+use crate::input_file::with_path;
+use crate::loading::{load_configuration, load_server_settings};
 use crate::log::{Log, Priority};
-use crate::log_rate_limit::LogRateLimit;
 use crate::poll::Poll;
 use crate::registering::{Registering, registrar_of};
 use crate::registration_file::restore;
 use crate::site_keys::load_keyed_sites;
 use crate::sockets::{ServerWires, Sockets};
-use crate::system_clock::{Clock, Moments};
+use crate::system_clock::Moments;
 use crate::unbound_locators::UnboundLocators;
-use crate::unknown_keys::UnknownKey;
 use crate::unrecognized_afi_log::{MOST_MESSAGES, end_period, log_unrecognized};
 use ddt_config::settings::ServerSettings;
 use ddt_config::{PlacedFault, ServerConfig};
 use ddt_daemon::{CountedAnswers, CountedWires, DaemonStatistics, ServerSocket, ServerStatistics};
+use ddt_daemon_text::{
+    Addresses, ConfigurationSummary, LogRateLimit, Message, UnknownKey, fault_text, name_text,
+};
 use ddt_ecm::CONTROL_PORT;
 use ddt_map_server::MapServer;
 use ddt_node::Server;
 use ddt_path::{Locator, LocatorSet};
+use ddt_registrar::{Clock, Registrar};
 use ddt_sockets::{MOST_BYTES, ip_of};
 use ddt_text::parse_locator;
 use ddt_trie::HashedMap;
@@ -46,7 +47,7 @@ pub struct ServerRole<'a> {
     /// The server with its registrations; without keys it never has any.
     pub server: MapServer<HashedMap<u32>>,
     /// The counts and the digest of the configuration.
-    pub summary: Summary,
+    pub summary: ConfigurationSummary,
     pub wires: CountedAnswers<CountedWires<ServerWires>>,
     pub buffer: Vec<u8>,
     pub settings: ServerSettings,
@@ -119,11 +120,8 @@ pub fn bind_locators(
 
 /// The message that no locator of a configuration is an address of this machine.
 fn no_place_text(rt: &HostRuntime, path: &str, locators: &[Locator]) -> Message {
-    let mut text = format!(in rt.alloc(); "{path}: no locator is this machine's:")?;
-    for locator in locators {
-        text.push_str(&format!(in rt.alloc(); " {}", ip_of(*locator))?)?;
-    }
-    Ok(text)
+    let addresses = Addresses(locators);
+    format!(in rt.alloc(); "{path}: no locator is this machine's:{addresses}")
 }
 
 /// Logs the unknown keys of the configuration.
@@ -145,33 +143,58 @@ fn bind(rt: &HostRuntime, address: Locator, sockets: &mut Sockets) -> io::Result
     sockets.bind(rt, address)
 }
 
-/// A Map-Server of a configuration, with the registrations that its file has.
-fn map_server_of(
+/// The sockets at the addresses to serve at.
+fn bound_sockets(
     rt: &HostRuntime,
     args: &ServeArgs<'_>,
-    config: ServerConfig,
+    config: &ServerConfig,
+) -> Result<Sockets, Message> {
+    let addresses = addresses_in(rt, args, config)?;
+    let mut sockets = Sockets::new(rt.alloc(), CONTROL_PORT).shared(args.is_shared);
+    let places = locators_served(&addresses, &config.locators);
+    match bind_locators(rt, args, places, &mut sockets) {
+        Ok(()) => Ok(sockets),
+        Err(why) => Err(why),
+    }
+}
+
+/// A registrar of the sites of a configuration that have keys, with the registrations that their file has.
+fn restored_registrar(
+    rt: &HostRuntime,
+    args: &ServeArgs<'_>,
+    config: &ServerConfig,
     clock: Clock,
     log: &mut Log,
-) -> Result<MapServer<HashedMap<u32>>, Message> {
-    let mut sites = load_keyed_sites(rt, args.keys, &config)?;
+) -> Result<Registrar<HashedMap<u32>>, Message> {
+    let mut sites = load_keyed_sites(rt, args.keys, config)?;
     let unread = restore(rt, args.registrations, sites.as_mut_slice(), clock)?;
     if unread > 0 {
         let path = args.registrations.unwrap_or("");
         let line = format!(in rt.alloc(); "{path}: {unread} lines are not of its form");
         log.say(rt, Priority::Warning, line);
     }
-    let registrar = registrar_of(rt.alloc(), sites)?;
+    registrar_of(rt.alloc(), sites)
+}
+
+/// A Map-Server of a configuration, with the registrations of a registrar that aren't over.
+fn map_server_of(
+    rt: &HostRuntime,
+    path: &str,
+    config: ServerConfig,
+    registrar: Registrar<HashedMap<u32>>,
+    moment: u64,
+) -> Result<MapServer<HashedMap<u32>>, Message> {
     let server = match Server::of_config(rt.alloc(), config) {
         Ok(server) => server,
         Err(fault) => {
             let text = fault_text(rt.alloc(), &PlacedFault::of_whole(fault));
-            return Err(with_path(rt, args.config, text));
+            return Err(with_path(rt, path, text));
         }
     };
     let Ok(mut server) = MapServer::new(rt.alloc(), server, registrar) else {
         return Err(Err(AllocError));
     };
-    match server.end(rt.alloc(), clock.moment) {
+    match server.end(rt.alloc(), moment) {
         Ok(()) => Ok(server),
         Err(refused) => Err(Err(refused)),
     }
@@ -189,6 +212,59 @@ fn watches_of<'a>(rt: &HostRuntime, args: &ServeArgs<'a>) -> Result<Watches<'a>,
     Ok(watches)
 }
 
+/// A Map-Server with its sockets and registrations.
+#[derive(Drop)]
+struct BoundServer<'a> {
+    server: MapServer<HashedMap<u32>>,
+    summary: ConfigurationSummary,
+    wires: ServerWires,
+    registering: Registering<'a>,
+    moments: Moments,
+    second: u64,
+}
+
+impl<'a> BoundServer<'a> {
+    /// Reads the configuration, binds the sockets and restores the registrations.
+    fn start(
+        rt: &HostRuntime,
+        args: &ServeArgs<'a>,
+        log: &mut Log,
+    ) -> Result<BoundServer<'a>, Message> {
+        let loaded = load_configuration(rt, args.config)?;
+        log_unknown_keys(rt, args.config, loaded.unknown.as_slice(), log);
+        let mut moments = Moments::new(rt)?;
+        let clock = moments.clock(rt);
+        let sockets = bound_sockets(rt, args, &loaded.config)?;
+        match BoundServer::register(rt, args, loaded.config, clock, log) {
+            Ok((server, registering)) => Ok(BoundServer {
+                server,
+                summary: loaded.summary,
+                wires: ServerWires { sockets },
+                registering,
+                moments,
+                second: clock.moment / 1000,
+            }),
+            Err(why) => Err(why),
+        }
+    }
+
+    /// The Map-Server of a configuration with its registrations, and their file.
+    fn register(
+        rt: &HostRuntime,
+        args: &ServeArgs<'a>,
+        config: ServerConfig,
+        clock: Clock,
+        log: &mut Log,
+    ) -> Result<(MapServer<HashedMap<u32>>, Registering<'a>), Message> {
+        let registrar = restored_registrar(rt, args, &config, clock, log)?;
+        let server = map_server_of(rt, args.config, config, registrar, clock.moment)?;
+        match Registering::start(rt, args, server.registrar().sites(), clock) {
+            Ok(registering) => Ok((server, registering)),
+            Err(why) => Err(why),
+        }
+    }
+}
+
 impl<'a> ServerRole<'a> {
     /// Reads the files, binds the sockets and restores the registrations.
     fn start(
@@ -198,37 +274,26 @@ impl<'a> ServerRole<'a> {
     ) -> Result<ServerRole<'a>, Message> {
         let watches = watches_of(rt, args)?;
         let settings = load_server_settings(rt, args.settings)?;
-        let loaded = load_configuration(rt, args.config)?;
-        log_unknown_keys(rt, args.config, loaded.unknown.as_slice(), log);
-        let Ok(mut moments) = Moments::new(rt) else {
-            return Err(format!(in rt.alloc(); "the system tells no time"));
-        };
-        let clock = Clock::now(rt, &mut moments);
-        let addresses = addresses_in(rt, args, &loaded.config)?;
-        let mut sockets = Sockets::new(rt.alloc(), CONTROL_PORT).shared(args.is_shared);
-        let places = locators_served(&addresses, &loaded.config.locators);
-        bind_locators(rt, args, places, &mut sockets)?;
-        let summary = loaded.summary;
-        let server = map_server_of(rt, args, loaded.config, clock, log)?;
-        let sites = server.registrar().sites();
-        let registering = Registering::start(rt, args, sites, clock)?;
         let Ok(buffer) = Vec::from_elem(rt.alloc(), 0u8, MOST_BYTES) else {
             return Err(Err(AllocError));
         };
-        Ok(ServerRole {
-            args,
-            server,
-            summary,
-            wires: CountedAnswers::new(CountedWires::new(ServerWires { sockets })),
-            buffer,
-            settings,
-            registering,
-            moments,
-            unrecognized: LogRateLimit::new(),
-            watches,
-            unbound: UnboundLocators::new(rt.alloc()),
-            second: clock.moment / 1000,
-        })
+        match BoundServer::start(rt, args, log) {
+            Ok(bound) => Ok(ServerRole {
+                args,
+                server: bound.server,
+                summary: bound.summary,
+                wires: CountedAnswers::new(CountedWires::new(bound.wires)),
+                buffer,
+                settings,
+                registering: bound.registering,
+                moments: bound.moments,
+                unrecognized: LogRateLimit::new(),
+                watches,
+                unbound: UnboundLocators::new(rt.alloc()),
+                second: bound.second,
+            }),
+            Err(why) => Err(why),
+        }
     }
 
     fn sockets(&self) -> &Sockets {
@@ -307,7 +372,7 @@ impl<'a> Role for ServerRole<'a> {
 
     /// Serves each socket that has a datagram.
     fn round(&mut self, rt: &HostRuntime, poll: &Poll, log: &mut Log) -> bool {
-        let clock = Clock::now(rt, &mut self.moments);
+        let clock = self.moments.clock(rt);
         for place in 0..self.sockets().len() {
             if poll.is_ready(place) {
                 self.serve_at(rt.alloc(), place, clock.moment);
@@ -320,17 +385,11 @@ impl<'a> Role for ServerRole<'a> {
     }
 
     fn status_text(&self, rt: &HostRuntime) -> Message {
-        let name = name_text(self.server.server().name());
-        let mut text = format!(in rt.alloc(); "{name}")?;
-        for place in 0..self.sockets().len() {
-            if let Some(at) = self.sockets().at(place) {
-                text.push_str(&format!(in rt.alloc(); " {}", ip_of(at))?)?;
-            }
-        }
-        text.push_str(&format!(in rt.alloc(); ", {}", self.summary)?)?;
         let sites = self.server.registrar().sites();
-        text.push_str(&self.registering.status_text(rt.alloc(), sites)?)?;
-        Ok(text)
+        let registered = self.registering.status_text(rt.alloc(), sites)?;
+        let name = name_text(self.server.server().name());
+        let (sockets, summary) = (self.sockets(), self.summary);
+        format!(in rt.alloc(); "{name}{sockets}, {summary}{registered}")
     }
 
     fn reload(&mut self, rt: &HostRuntime, log: &mut Log) -> Result<(), Message> {
@@ -360,9 +419,8 @@ impl<'a> Role for ServerRole<'a> {
         };
         self.registering
             .correct_counts(self.server.counts(), &mut statistics);
-        let mut text = format!(in rt.alloc(); "{statistics}")?;
-        text.push_str(&self.registering.statistics(rt.alloc(), &self.server)?)?;
-        Ok(text)
+        let registers = self.registering.statistics(rt.alloc(), &self.server)?;
+        format!(in rt.alloc(); "{statistics}{registers}")
     }
 
     fn answer(&mut self, rt: &HostRuntime, request: &ControlRequest, _log: &mut Log) -> Message {

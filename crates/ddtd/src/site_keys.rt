@@ -1,14 +1,11 @@
 //! Loading the keys under which the ETRs of sites register.
 
-use crate::input_file::{MOST_KEYS, Message, read_secret, with_path};
-use crate::loading::{name_text, refuse_unknown, table_of, text_of};
-use crate::resolver_tables::text_of as bytes_text;
-use crate::unknown_keys::unknown_in_keys;
+use crate::input_file::{MOST_KEYS, read_secret, with_path};
 use ddt_config::ServerConfig;
-use ddt_map_server::keys::{KeysFault, SiteKey, keyed_sites, read_keys};
-use ddt_path::{Listed, Prefix};
+use ddt_daemon_text::{Message, prefix_text, refuse_unknown, table_of, text_of, unknown_in_list};
+use ddt_map_server::keys::{KeysFault, Member, SiteKey, keyed_sites, read_keys};
+use ddt_path::Listed;
 use ddt_registrar::KeyedSite;
-use ddt_text::write_prefix;
 use std::alloc::{AllocError, Global};
 use toml::Table;
 
@@ -39,11 +36,29 @@ fn sites_of(alloc: Global, bytes: &[u8], config: &ServerConfig) -> Result<Vec<Ke
 
 /// The keys in a text and its TOML table. Refuses an unknown key of the table.
 pub fn keys_in(alloc: Global, text: &str, table: &Table) -> Result<Listed<SiteKey>, Message> {
-    refuse_unknown(alloc, unknown_in_keys(alloc, text, table))?;
+    let list = Member::Key.text();
+    refuse_unknown(
+        alloc,
+        unknown_in_list(alloc, text, table, list, &known_members()),
+    )?;
     match read_keys(alloc, table) {
         Ok(keys) => Ok(keys),
         Err(fault) => Err(keys_text(alloc, fault)),
     }
+}
+
+/// The members of each key in the file.
+fn known_members() -> [&'static str; 8] {
+    [
+        Member::Prefix.text(),
+        Member::AcceptMoreSpecifics.text(),
+        Member::Id.text(),
+        Member::Algorithm.text(),
+        Member::Secret.text(),
+        Member::SecretHex.text(),
+        Member::Replay.text(),
+        Member::StaticEtrs.text(),
+    ]
 }
 
 /// The message for a fault of keys.
@@ -72,11 +87,4 @@ fn keys_text(alloc: Global, fault: KeysFault) -> Result<String, AllocError> {
         }
         KeysFault::Memory => format!(in alloc; "{fault}: out of memory"),
     }
-}
-
-/// A prefix in its text form.
-pub fn prefix_text(alloc: Global, prefix: Prefix) -> Result<String, AllocError> {
-    let mut text = Vec::new(alloc);
-    write_prefix(&mut text, prefix)?;
-    bytes_text(alloc, &text)
 }

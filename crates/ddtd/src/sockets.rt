@@ -11,9 +11,9 @@ use ddt_path::Locator;
 use ddt_sockets::{NetFault, Packet, Wires, ip_of, locator_of};
 use ddt_wire::MessageType;
 use std::alloc::Global;
-use std::io;
 use std::io::ErrorKind;
 use std::net::{Net, SocketAddr, UdpSocket};
+use std::{fmt, io};
 
 /// A socket and the address that it is bound to.
 #[derive(Drop)]
@@ -199,6 +199,16 @@ impl Sockets {
     }
 }
 
+/// The addresses of the sockets, each after a space.
+impl fmt::Display for Sockets {
+    fn fmt<W: fmt::Write>(&self, f: &mut fmt::Formatter<W>) -> fmt::Result {
+        for bound in self.bound.as_slice() {
+            write!(f, " {}", ip_of(bound.at))?;
+        }
+        Ok(())
+    }
+}
+
 /// The most datagrams dropped in a round.
 const MOST_DRAINED: u32 = 64;
 
@@ -374,6 +384,13 @@ pub struct FarWires {
 }
 
 impl FarWires {
+    /// Wires without sockets.
+    pub fn new(alloc: Global) -> FarWires {
+        FarWires {
+            sockets: Sockets::new(alloc, 0),
+        }
+    }
+
     /// Drops the datagrams that have arrived, so that the next poll waits for new ones.
     pub fn drain(&mut self, buffer: &mut [u8]) {
         for _datagram in 0..MOST_DRAINED {

@@ -24,10 +24,15 @@ pub fn open_closed(rt: &HostRuntime) -> io::Result<()> {
 }
 
 fn are_open() -> bool {
-    let mut streams = [0, 1, 2].map(|fd| pollfd {
+    let mut streams = [stream(0), stream(1), stream(2)];
+    poll(&mut streams, 0) >= 0 && streams.iter().all(|stream| stream.revents & POLLNVAL == 0)
+}
+
+/// A descriptor, to ask whether it is open.
+fn stream(fd: i32) -> pollfd {
+    pollfd {
         fd,
         events: 0,
         revents: 0,
-    });
-    poll(&mut streams, 0) >= 0 && streams.iter().all(|stream| stream.revents & POLLNVAL == 0)
+    }
 }

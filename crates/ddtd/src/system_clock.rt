@@ -1,11 +1,9 @@
 //! The system's clocks: seconds and milliseconds since 1970, and the milliseconds since the daemon started.
 
 use ddt_cache::{LAST_MOMENT, Moment};
-use std::io;
+use ddt_daemon_text::Message;
+use ddt_registrar::Clock;
 use std::time::{Duration, Instant, SystemTime};
-
-/// A day, in milliseconds: the longest that a registration lasts.
-const DAY: u64 = 86_400_000;
 
 /// The time since 1970; zero if the system has no time.
 fn since_1970(rt: &HostRuntime) -> Duration {
@@ -23,24 +21,27 @@ pub fn seconds(rt: &HostRuntime) -> u64 {
 }
 
 /// The milliseconds since 1970; 0 if the system has no time.
-pub fn wall_millis(rt: &HostRuntime) -> u64 {
+fn wall_millis(rt: &HostRuntime) -> u64 {
     since_1970(rt).as_millis().min(u64::MAX as u128) as u64
 }
 
 /// The clock of moments: the milliseconds since the daemon started.
-#[derive(Clone, Copy, Debug)]
+#[derive(Clone, Copy)]
 pub struct Moments {
     start: Instant,
     last: Moment,
 }
 
 impl Moments {
-    /// A clock for which now is moment 0. Fails if the system has no monotonic time.
-    pub fn new(rt: &HostRuntime) -> io::Result<Moments> {
-        Ok(Moments {
-            start: Instant::now(rt)?,
-            last: Moment::at(0).unwrap(),
-        })
+    /// A clock for which now is moment 0. Fails with a message if the system has no monotonic time.
+    pub fn new(rt: &HostRuntime) -> Result<Moments, Message> {
+        match Instant::now(rt) {
+            Ok(start) => Ok(Moments {
+                start,
+                last: Moment::at(0).unwrap(),
+            }),
+            Err(_) => Err(format!(in rt.alloc(); "the system tells no time")),
+        }
     }
 
     /// The current moment; the last one if the system has no time.
@@ -51,39 +52,17 @@ impl Moments {
         }
         self.last
     }
+
+    /// The current time by this clock, and since 1970.
+    pub fn clock(&mut self, rt: &HostRuntime) -> Clock {
+        Clock {
+            moment: self.now(rt).millis(),
+            wall: wall_millis(rt),
+        }
+    }
 }
 
 /// Sleeps for 10 milliseconds.
 pub fn pause(rt: &HostRuntime) {
     let _slept = std::thread::sleep(rt, Duration::from_millis(10));
-}
-
-/// The current time by both clocks.
-#[derive(Clone, Copy, Debug)]
-pub struct Clock {
-    /// The milliseconds since the daemon started.
-    pub moment: u64,
-    /// The milliseconds since 1970.
-    pub wall: u64,
-}
-
-impl Clock {
-    /// Reads both clocks.
-    pub fn now(rt: &HostRuntime, moments: &mut Moments) -> Clock {
-        Clock {
-            moment: moments.now(rt).millis(),
-            wall: wall_millis(rt),
-        }
-    }
-
-    /// The wall time at a moment, in milliseconds since 1970; now if the moment has passed.
-    pub fn wall_at(self, moment: u64) -> u64 {
-        self.wall.saturating_add(moment.saturating_sub(self.moment))
-    }
-
-    /// The moment of a wall time in milliseconds since 1970; now if it has passed, and at most a day ahead.
-    pub fn moment_at(self, wall: u64) -> u64 {
-        let left = wall.saturating_sub(self.wall).min(DAY);
-        self.moment.saturating_add(left)
-    }
 }

@@ -11,7 +11,7 @@ use std::net::UdpSocket;
 const LONGEST: usize = 107;
 
 /// The daemon's state.
-#[derive(Clone, Copy, Debug, PartialEq, Eq)]
+#[derive(Clone, Copy)]
 pub enum State {
     /// It serves by the files that it adopted last.
     Ready,

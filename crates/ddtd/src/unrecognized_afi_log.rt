@@ -1,8 +1,8 @@
 //! Logs messages that were dropped for an unrecognized AFI (RFC 9301, section 5), at a limited rate.
 
 use crate::log::{Log, Priority};
-use crate::log_rate_limit::LogRateLimit;
 use ddt_daemon::UnrecognizedMessage;
+use ddt_daemon_text::LogRateLimit;
 use ddt_sockets::ip_of;
 
 /// The most messages logged in a round.
@@ -18,20 +18,12 @@ pub fn log_unrecognized(
     if !said.may_say() {
         return;
     }
-    let line = match one {
-        UnrecognizedMessage::Request(from) => {
-            format!(in rt.alloc();
-                "dropped a Map-Request of {}: unrecognized AFI",
-                ip_of(from)
-            )
-        }
-        UnrecognizedMessage::Referral(from) => {
-            format!(in rt.alloc();
-                "dropped a Map-Referral of {}: unrecognized AFI",
-                ip_of(from)
-            )
-        }
+    let (kind, from) = match one {
+        UnrecognizedMessage::Request(from) => ("Map-Request", from),
+        UnrecognizedMessage::Referral(from) => ("Map-Referral", from),
     };
+    let from = ip_of(from);
+    let line = format!(in rt.alloc(); "dropped a {kind} of {from}: unrecognized AFI");
     log.say(rt, Priority::Warning, line);
 }
 

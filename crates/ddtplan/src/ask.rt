@@ -5,7 +5,7 @@ use crate::probe::{Probe, random_numbers};
 use crate::probe_scope::ProbeScope;
 use crate::progress_bar::ProgressBar;
 use ddt_asking::{
-    Client, Finding, FindingCounts, ProbeOptions, finding_line, itr_finding_line, sampled,
+    Client, Finding, FindingCounts, ProbeOptions, Question, finding_line, itr_finding_line, sampled,
 };
 use ddt_path::{Locator, Xeid};
 use ddt_plan_commands::{AskAsked, ExitStatus};
@@ -32,12 +32,21 @@ pub fn ask(rt: &HostRuntime, asked: &AskAsked<'_>) -> Result<ExitStatus, Failure
     }
     let named = identifiers_in(rt, asked.identifiers.as_slice())?;
     let scope = ProbeScope::read(rt, asked)?;
-    let identifiers = if named.is_empty() {
-        drawn(rt, asked, scope.identifiers().map_err(no_memory)?)?
-    } else {
-        named
-    };
-    ask_about(rt, asked, &scope, &identifiers)
+    ask_named(rt, asked, &scope, &named)
+}
+
+/// Asks about the named identifiers, or if there are none about those of the scope.
+fn ask_named(
+    rt: &HostRuntime,
+    asked: &AskAsked<'_>,
+    scope: &ProbeScope,
+    named: &[Xeid],
+) -> Result<ExitStatus, Failure> {
+    if !named.is_empty() {
+        return ask_about(rt, asked, scope, named);
+    }
+    let identifiers = drawn(rt, asked, scope)?;
+    ask_about(rt, asked, scope, &identifiers)
 }
 
 /// Returns the reason why these arguments contradict each other, if they do.
@@ -66,12 +75,9 @@ fn identifiers_in(rt: &HostRuntime, words: &[&str]) -> Result<Vec<Xeid>, Failure
     Ok(identifiers)
 }
 
-/// Returns as many of these identifiers as `--sample` says, drawn at random; all without it.
-fn drawn(
-    rt: &HostRuntime,
-    asked: &AskAsked<'_>,
-    identifiers: Vec<Xeid>,
-) -> Result<Vec<Xeid>, Failure> {
+/// Returns as many identifiers of the scope as `--sample` says, drawn at random; all without it.
+fn drawn(rt: &HostRuntime, asked: &AskAsked<'_>, scope: &ProbeScope) -> Result<Vec<Xeid>, Failure> {
+    let identifiers = scope.identifiers().map_err(no_memory)?;
     let Some(amount) = asked.sample else {
         return Ok(identifiers);
     };
@@ -88,20 +94,25 @@ fn ask_about(
 ) -> Result<ExitStatus, Failure> {
     let options = options_of(asked, scope);
     let mut probe = Probe::new(rt, options)?;
-    let counts = scope.counts(identifiers).map_err(no_memory)?;
-    let line = counts.line(rt.alloc(), &options).map_err(no_memory)?;
-    let _ = rt.stderr().write_all(&line);
     let mut asking = Asking {
         quiet: asked.quiet,
-        bar: ProgressBar::new(rt, counts.questions),
+        bar: ProgressBar::new(rt, say_number(rt, &options, scope, identifiers)?),
         counts: FindingCounts::default(),
     };
-    for xeid in identifiers {
-        if let Some(end) = asking.ask(rt, &mut probe, scope, *xeid)? {
-            return Ok(end);
-        }
-    }
-    asking.finish(rt)
+    asking.ask_each(rt, &mut probe, scope, identifiers)
+}
+
+/// Writes the number of questions and their time to standard error, and returns the number.
+fn say_number(
+    rt: &HostRuntime,
+    options: &ProbeOptions,
+    scope: &ProbeScope,
+    identifiers: &[Xeid],
+) -> Result<u64, Failure> {
+    let counts = scope.counts(identifiers).map_err(no_memory)?;
+    let line = counts.line(rt.alloc(), options).map_err(no_memory)?;
+    let _ = rt.stderr().write_all(&line);
+    Ok(counts.questions)
 }
 
 /// Returns the options of the probe.
@@ -128,6 +139,22 @@ struct Asking {
 }
 
 impl Asking {
+    /// Asks about each of these identifiers, and prints the numbers of findings.
+    fn ask_each(
+        &mut self,
+        rt: &HostRuntime,
+        probe: &mut Probe<'_>,
+        scope: &ProbeScope,
+        identifiers: &[Xeid],
+    ) -> Result<ExitStatus, Failure> {
+        for xeid in identifiers {
+            if let Some(end) = self.ask(rt, probe, scope, *xeid)? {
+                return Ok(end);
+            }
+        }
+        self.finish(rt)
+    }
+
     /// Asks all questions about an identifier and prints the findings. Returns a status if they couldn't be printed.
     fn ask(
         &mut self,
@@ -137,15 +164,26 @@ impl Asking {
         xeid: Xeid,
     ) -> Result<Option<ExitStatus>, Failure> {
         let questions = scope.questions(xeid).map_err(no_memory)?;
-        let mut findings = probe.ask(xeid, &questions).map_err(no_memory)?;
-        if let Some(finding) = scope.unseen(xeid) {
-            findings.push(finding).map_err(|_| Err(AllocError))?;
-        }
-        let is_itr = scope.as_itr.is_some();
         let text = self
-            .note(rt.alloc(), xeid, &findings, is_itr)
+            .text_of(rt.alloc(), probe, scope, xeid, &questions)
             .map_err(no_memory)?;
         Ok(self.print(rt, &text, questions.len()))
+    }
+
+    /// Asks these questions about an identifier, and returns the lines that are printed.
+    fn text_of(
+        &mut self,
+        alloc: Global,
+        probe: &mut Probe<'_>,
+        scope: &ProbeScope,
+        xeid: Xeid,
+        questions: &[Question],
+    ) -> Result<Vec<u8>, AllocError> {
+        let mut findings = probe.ask(xeid, questions)?;
+        if let Some(finding) = scope.unseen(xeid) {
+            findings.push(finding)?;
+        }
+        self.note(alloc, xeid, &findings, scope.as_itr.is_some())
     }
 
     /// Counts the findings about an identifier, and returns the lines that are printed.
@@ -159,15 +197,9 @@ impl Asking {
         let mut text = Vec::new(alloc);
         for finding in findings {
             self.counts.count(&finding.verdict);
-            if self.quiet && finding.agrees() {
-                continue;
+            if !(self.quiet && finding.agrees()) {
+                push_finding(&mut text, xeid, finding, is_itr)?;
             }
-            let line = if is_itr {
-                itr_finding_line(alloc, xeid, finding)?
-            } else {
-                finding_line(alloc, xeid, finding)?
-            };
-            text.extend_from_slice(line.as_slice())?;
         }
         Ok(text)
     }
@@ -196,4 +228,20 @@ impl Asking {
         };
         Ok(print(rt, &line, end))
     }
+}
+
+/// Appends the line of a finding about an identifier, of a Map-Resolver's answer or of a server's.
+fn push_finding(
+    text: &mut Vec<u8>,
+    xeid: Xeid,
+    finding: &Finding,
+    is_itr: bool,
+) -> Result<(), AllocError> {
+    let alloc = *text.allocator();
+    let line = if is_itr {
+        itr_finding_line(alloc, xeid, finding)?
+    } else {
+        finding_line(alloc, xeid, finding)?
+    };
+    text.extend_from_slice(line.as_slice())
 }

@@ -15,16 +15,37 @@ pub fn identifiers_of_change(
     after: &Accepted,
 ) -> Result<Vec<Xeid>, AllocError> {
     let mut touched = BTreeSet::new(alloc);
-    for xeid in changed_identifiers(alloc, before, after)? {
-        touched.insert(xeid)?;
-    }
-    let changes = item_changes(alloc, before, after)?;
-    add_items(&mut touched, &changes.zones)?;
-    add_items(&mut touched, &changes.sites)?;
-    let groups = names_of(alloc, &changes.groups)?;
-    add_zones(&mut touched, before, &groups)?;
-    add_zones(&mut touched, after, &groups)?;
+    add_blocks(alloc, &mut touched, before, after)?;
+    add_changes(alloc, &mut touched, before, after)?;
     in_order(alloc, touched)
+}
+
+/// Adds an identifier of each block whose assignment differs.
+fn add_blocks(
+    alloc: Global,
+    touched: &mut BTreeSet<Xeid>,
+    before: &Accepted,
+    after: &Accepted,
+) -> Result<(), AllocError> {
+    for xeid in &changed_identifiers(alloc, before, after)? {
+        touched.insert(*xeid)?;
+    }
+    Ok(())
+}
+
+/// Adds an identifier of each zone and site that differs, and of each zone whose group differs.
+fn add_changes(
+    alloc: Global,
+    touched: &mut BTreeSet<Xeid>,
+    before: &Accepted,
+    after: &Accepted,
+) -> Result<(), AllocError> {
+    let changes = item_changes(alloc, before, after)?;
+    add_items(touched, &changes.zones)?;
+    add_items(touched, &changes.sites)?;
+    let groups = names_of(alloc, &changes.groups)?;
+    add_zones(touched, before, &groups)?;
+    add_zones(touched, after, &groups)
 }
 
 /// Adds an identifier of each item that differs.

@@ -7,6 +7,7 @@
 
 mod ask;
 mod compile;
+mod disk_folder;
 mod export;
 mod faults;
 mod foreign;
@@ -14,6 +15,7 @@ mod identifiers_of_change;
 mod inputs;
 mod list_progress;
 mod loopback;
+mod new_file;
 mod pictures;
 mod probe;
 mod probe_scope;
@@ -23,7 +25,6 @@ mod rollout;
 mod seam;
 mod seams_of_index;
 mod tree_index;
-mod truncation;
 mod warn;
 
 use ddt_plan_commands::{
@@ -46,7 +47,12 @@ fn run_words(rt: &HostRuntime) -> ExitStatus {
         Err(error) if error.kind() == ErrorKind::OutOfMemory => return refuse(rt, "out of memory"),
         Err(_) => return refuse(rt, "a word is no text"),
     };
-    match read_asked(rt.alloc(), &words) {
+    run_command(rt, &words)
+}
+
+/// Runs the command that the words name.
+fn run_command(rt: &HostRuntime, words: &[String]) -> ExitStatus {
+    match read_asked(rt.alloc(), words) {
         Ok(asked) => run_asked(rt, &asked),
         // Help and the version are no mistakes, if they could be printed.
         Err(error) => match error.print(rt) {
@@ -95,9 +101,18 @@ fn refuse(rt: &HostRuntime, why: &str) -> ExitStatus {
 
 /// Runs a command over the files and the streams of the process.
 fn run(rt: &HostRuntime, asked: &Asked<'_>) -> ExitStatus {
-    let answered = match asked {
-        Asked::Blocks(asked) => return blocks(rt, asked),
-        Asked::Diff(asked) => return diff(rt, asked),
+    match answer(rt, asked) {
+        Ok(end) => end,
+        Err(why) => refuse_for(rt, why),
+    }
+}
+
+/// Prints the answer of a command. Refused with the reason why there is none; `blocks` and `diff` say theirs
+/// themselves.
+fn answer(rt: &HostRuntime, asked: &Asked<'_>) -> Result<ExitStatus, Failure> {
+    match asked {
+        Asked::Blocks(asked) => Ok(blocks(rt, asked)),
+        Asked::Diff(asked) => Ok(diff(rt, asked)),
         Asked::Seam(asked) => seam::seam(rt, asked),
         Asked::Faults(asked) => faults::faults(rt, asked),
         Asked::Warn(asked) => warn::warn(rt, asked),
@@ -109,10 +124,6 @@ fn run(rt: &HostRuntime, asked: &Asked<'_>) -> ExitStatus {
         Asked::Ask(asked) => ask::ask(rt, asked),
         Asked::Tree(asked) => pictures::tree(rt, asked),
         Asked::Ladder(asked) => pictures::ladder(rt, asked),
-    };
-    match answered {
-        Ok(end) => end,
-        Err(why) => refuse_for(rt, why),
     }
 }
 

@@ -18,6 +18,18 @@ pub fn random_numbers(rt: &HostRuntime) -> Result<Pcg32, Failure> {
     }
 }
 
+/// Binds the sockets of a probe.
+fn wires_of(rt: &HostRuntime, options: &ProbeOptions) -> Result<BlockingWires, Failure> {
+    let bound = match options.client {
+        Client::Ddt => BlockingWires::bind(rt.alloc(), rt, options.me),
+        Client::Itr => BlockingWires::bind_at(rt.alloc(), rt, options.me),
+    };
+    match bound {
+        Ok(wires) => Ok(wires),
+        Err(error) => Err(format!(in rt.alloc(); "no socket: {error}")),
+    }
+}
+
 /// Asks questions over sockets.
 #[derive(Drop)]
 pub struct Probe<'a> {
@@ -31,22 +43,16 @@ impl<'a> Probe<'a> {
     /// Binds the sockets. It asks servers from ports of the system's choice, and a Map-Resolver from port 4342 of the
     /// ITR's address.
     pub fn new(rt: &'a HostRuntime, options: ProbeOptions) -> Result<Probe<'a>, Failure> {
-        let bound = match options.client {
-            Client::Ddt => BlockingWires::bind(rt.alloc(), rt, options.me),
-            Client::Itr => BlockingWires::bind_at(rt.alloc(), rt, options.me),
-        };
-        let wires = match bound {
-            Ok(wires) => wires,
-            Err(error) => return Err(format!(in rt.alloc(); "no socket: {error}")),
-        };
+        let wires = wires_of(rt, &options)?;
         let Ok(clock) = SystemClock::new(rt) else {
             return Err(format!(in rt.alloc(); "the system tells no time"));
         };
+        let nonces = random_numbers(rt)?;
         Ok(Probe {
             prober: Prober::new(rt.alloc(), options),
             wires,
             clock,
-            nonces: random_numbers(rt)?,
+            nonces,
         })
     }
 

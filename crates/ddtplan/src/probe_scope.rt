@@ -69,6 +69,17 @@ fn ours_in(
     Ok(Some(ours))
 }
 
+/// Returns the register that was in force before, if it is given.
+fn accepted_before(rt: &HostRuntime, asked: &AskAsked<'_>) -> Result<Option<Accepted>, Failure> {
+    match asked.before {
+        Some(path) => match accepted_at(rt, path) {
+            Ok(accepted) => Ok(Some(accepted)),
+            Err(why) => Err(why),
+        },
+        None => Ok(None),
+    }
+}
+
 /// The scope of a probe.
 #[derive(Drop)]
 pub struct ProbeScope {
@@ -87,17 +98,15 @@ impl ProbeScope {
     /// Reads the scope from the arguments of `ask`.
     pub fn read(rt: &HostRuntime, asked: &AskAsked<'_>) -> Result<ProbeScope, Failure> {
         let as_itr = AsItr::read(rt, asked)?;
-        let before = match asked.before {
-            Some(path) => Some(accepted_at(rt, path)?),
-            None => None,
-        };
+        let before = accepted_before(rt, asked)?;
         let after = accepted_at(rt, asked.register)?;
+        let ours = ours_in(rt, asked, &after)?;
         Ok(ProbeScope {
             alloc: rt.alloc(),
             before,
-            ours: ours_in(rt, asked, &after)?,
             after,
             as_itr,
+            ours,
         })
     }
 

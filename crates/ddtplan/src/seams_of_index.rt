@@ -2,11 +2,14 @@
 
 use crate::inputs::{Failure, accepted_at, bytes_at, no_memory, print};
 use crate::tree_index::{Runner, runners_in};
+use ddt_check::Accepted;
 use ddt_organisations::{Organisation, TreeFault, seams, tree_faults};
+use ddt_path::Name;
 use ddt_plan_commands::ExitStatus;
 use ddt_register::Zone;
 use ddt_text::write_prefix;
 use std::alloc::{AllocError, Global};
+use std::collections::BTreeSet;
 use std::str;
 
 const ROOT_NOT_RUN: &str = "the first register doesn't run the root";
@@ -28,8 +31,7 @@ struct OrganisationTree {
 
 /// Prints what is wrong with a tree, or how large a good one is.
 pub fn seams_of_index(rt: &HostRuntime, path: &str) -> Result<ExitStatus, Failure> {
-    let bytes = bytes_at(rt, path)?;
-    let tree = tree_of(rt, path, runners_in(rt, path, &bytes)?)?;
+    let tree = tree_at(rt, path)?;
     let faults = tree_faults(rt.alloc(), &tree.all).map_err(no_memory)?;
     if faults.is_empty() {
         let text = size_text(rt.alloc(), &tree).map_err(no_memory)?;
@@ -37,6 +39,12 @@ pub fn seams_of_index(rt: &HostRuntime, path: &str) -> Result<ExitStatus, Failur
     }
     let text = faults_text(rt.alloc(), &tree, &faults).map_err(no_memory)?;
     Ok(print(rt, &text, ExitStatus::Different))
+}
+
+/// Returns the organisations of the index at a path.
+fn tree_at(rt: &HostRuntime, path: &str) -> Result<OrganisationTree, Failure> {
+    let bytes = bytes_at(rt, path)?;
+    tree_of(rt, path, runners_in(rt, path, &bytes)?)
 }
 
 /// Returns the organisations of an index. Refused if a register isn't accepted, or has no group of a name.
@@ -49,13 +57,20 @@ fn tree_of(
         files: Vec::new(rt.alloc()),
         all: Vec::new(rt.alloc()),
     };
-    for runner in runners.into_iter() {
-        let file = beside(rt.alloc(), path, runner.file.as_str()).map_err(no_memory)?;
-        let organisation = organisation_of(rt, path, file.as_str(), runner)?;
-        tree.files.push(file).map_err(|_| Err(AllocError))?;
-        tree.all.push(organisation).map_err(|_| Err(AllocError))?;
+    for runner in runners {
+        tree.add(rt, path, runner)?;
     }
     Ok(tree)
+}
+
+impl OrganisationTree {
+    /// Adds the organisation of a register that the index at a path names.
+    fn add(&mut self, rt: &HostRuntime, path: &str, runner: Runner) -> Result<(), Failure> {
+        let file = beside(rt.alloc(), path, runner.file.as_str()).map_err(no_memory)?;
+        let organisation = organisation_of(rt, path, file.as_str(), runner)?;
+        self.all.push(organisation).map_err(|_| Err(AllocError))?;
+        self.files.push(file).map_err(|_| Err(AllocError))
+    }
 }
 
 /// Returns the path of a file that an index names: relative to the index's folder, unless it is absolute.
@@ -74,13 +89,25 @@ fn organisation_of(
     runner: Runner,
 ) -> Result<Organisation, Failure> {
     let accepted = accepted_at(rt, file)?;
-    for name in runner.groups.iter() {
-        if accepted.group_named(*name).is_none() {
-            let group = str::from_utf8(name.as_bytes()).unwrap_or("");
-            return Err(format!(in rt.alloc(); "{path}: {file} has no group {group}"));
-        }
+    match lacking(rt, path, file, &runner.groups, &accepted) {
+        Some(why) => Err(why),
+        None => Ok(Organisation::of(accepted, runner.groups)),
     }
-    Ok(Organisation::of(accepted, runner.groups))
+}
+
+/// Returns the failure of a register that lacks one of these groups.
+fn lacking(
+    rt: &HostRuntime,
+    path: &str,
+    file: &str,
+    groups: &BTreeSet<Name>,
+    accepted: &Accepted,
+) -> Option<Failure> {
+    let lacks = groups
+        .iter()
+        .find(|name| accepted.group_named(**name).is_none())?;
+    let group = str::from_utf8(lacks.as_bytes()).unwrap_or("");
+    Some(format!(in rt.alloc(); "{path}: {file} has no group {group}"))
 }
 
 /// Returns the line of a good tree.

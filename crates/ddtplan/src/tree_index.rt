@@ -32,26 +32,44 @@ pub fn runners_in(rt: &HostRuntime, path: &str, bytes: &[u8]) -> Result<Vec<Runn
         all: Vec::new(rt.alloc()),
         places: BTreeMap::new(rt.alloc()),
     };
-    let mut is_head = true;
-    let reader = ReaderBuilder::new()
-        .has_headers(false)
-        .from_reader(rt.alloc(), bytes);
-    for record in reader.into_records() {
-        let record = match record {
-            Ok(record) => record,
-            Err(error) => return Err(format!(in rt.alloc(); "{path}: {error}")),
-        };
-        if is_head {
-            refuse_other_head(rt, path, &record)?;
-            is_head = false;
-        } else {
-            add_row(rt, path, &mut runners, &record)?;
-        }
-    }
+    read_rows(rt, path, bytes, &mut runners)?;
     if runners.all.is_empty() {
         return Err(format!(in rt.alloc(); "{path}: it names no register"));
     }
     Ok(runners.all)
+}
+
+/// Adds what all rows say.
+fn read_rows(
+    rt: &HostRuntime,
+    path: &str,
+    bytes: &[u8],
+    runners: &mut Runners,
+) -> Result<(), Failure> {
+    let reader = ReaderBuilder::new()
+        .has_headers(false)
+        .from_reader(rt.alloc(), bytes);
+    let mut is_head = true;
+    for record in reader.into_records() {
+        read_row(rt, path, record, is_head, runners)?;
+        is_head = false;
+    }
+    Ok(())
+}
+
+/// Adds what a row says, unless it is the head.
+fn read_row(
+    rt: &HostRuntime,
+    path: &str,
+    record: Result<StringRecord, csv::Error>,
+    is_head: bool,
+    runners: &mut Runners,
+) -> Result<(), Failure> {
+    match record {
+        Ok(record) if is_head => refuse_other_head(rt, path, &record),
+        Ok(record) => add_row(rt, path, runners, &record),
+        Err(error) => Err(format!(in rt.alloc(); "{path}: {error}")),
+    }
 }
 
 fn refuse_other_head(rt: &HostRuntime, path: &str, record: &StringRecord) -> Result<(), Failure> {

@@ -10,7 +10,7 @@ use ddt_path::{Form, Locator, Prefix};
 const HIGHEST_IID: u32 = 0xff_ffff;
 
 /// A block of addresses in one instance.
-#[derive(Clone, Copy, Debug, PartialEq, Eq)]
+#[derive(Clone, Copy, PartialEq, Eq)]
 pub(crate) struct EidPrefix {
     /// The Instance ID, at most 16,777,215.
     pub iid: u32,

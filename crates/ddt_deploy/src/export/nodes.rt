@@ -11,7 +11,7 @@ use ddt_path::{Form, LocatorSet, Prefix};
 use std::alloc::{AllocError, Global};
 
 /// A delegation and the zone that has it.
-#[derive(Clone, Copy, Debug)]
+#[derive(Clone, Copy)]
 pub(crate) struct Delegation {
     pub zone: Prefix,
     pub child: Child,

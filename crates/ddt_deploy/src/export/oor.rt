@@ -16,7 +16,7 @@ use ddt_path::{Locator, Prefix, Role};
 use std::alloc::{AllocError, Global};
 
 /// A configuration file that OOR reads.
-#[derive(Debug, Drop)]
+#[derive(Drop)]
 pub struct OorFile {
     pub text: Vec<u8>,
     /// Whether each delegation and each site is written, except delegations to the group itself.

@@ -6,7 +6,7 @@ ghost use Rattle.ddt_deploy.specs.Export.Rows.{is_loss as is_loss_of, is_lost as
 use crate::export::eid_prefix::EidPrefix;
 
 /// Why OOR's configuration can't have a zone, a delegation or a site.
-#[derive(Clone, Copy, Debug, PartialEq, Eq)]
+#[derive(Clone, Copy, PartialEq, Eq)]
 pub(crate) enum Missing {
     /// It is a range of instances.
     Range,
@@ -49,7 +49,7 @@ impl Missing {
 }
 
 /// An entry of a configuration, with its prefix in OOR or the reason why it is missing there.
-#[derive(Clone, Copy, Debug)]
+#[derive(Clone, Copy)]
 pub(crate) struct Row<T> {
     pub entry: T,
     pub written: Result<EidPrefix, Missing>,

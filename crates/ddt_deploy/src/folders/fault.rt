@@ -6,7 +6,7 @@ use crate::folders::file_name::FileName;
 use std::alloc::{AllocError, AllocFailed};
 
 /// The fault of a publication that is incomplete.
-#[derive(Debug, Drop, PartialEq, Eq)]
+#[derive(Drop, PartialEq, Eq)]
 pub enum PublishFault<E> {
     /// Out of memory. Nothing was touched.
     Memory,

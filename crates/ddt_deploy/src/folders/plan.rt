@@ -22,7 +22,7 @@ use std::alloc::{AllocError, Global};
 use std::collections::BTreeSet;
 
 /// The changes of a folder after which it has all configurations of a register.
-#[derive(Debug, Drop)]
+#[derive(Drop)]
 pub struct Plan {
     /// The steps in their order, the manifest last.
     pub steps: Listed<Step>,

@@ -7,14 +7,14 @@ use crate::folders::file_name::FileName;
 use ddt_path::{Listed, Name};
 
 /// A file: its name and its bytes.
-#[derive(Debug, Drop)]
+#[derive(Drop)]
 pub struct NamedFile {
     pub name: FileName,
     pub bytes: Listed<u8>,
 }
 
 /// The configuration of a group as a manifest lists it.
-#[derive(Debug, Drop)]
+#[derive(Drop)]
 pub struct ListedConfig {
     pub name: Name,
     /// Its SHA-256 in 64 hexadecimal digits.
@@ -22,7 +22,7 @@ pub struct ListedConfig {
 }
 
 /// The change of one file.
-#[derive(Debug, Drop)]
+#[derive(Drop)]
 pub enum Step {
     /// The file is written, and wasn't there before.
     Add(NamedFile),

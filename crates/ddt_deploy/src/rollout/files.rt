@@ -15,7 +15,7 @@ use ddt_path::Name;
 use std::alloc::{AllocError, Global};
 
 /// The file of a group's configuration.
-#[derive(Debug, Drop)]
+#[derive(Drop)]
 pub struct ConfigFile {
     /// The name of the group.
     pub group: Name,

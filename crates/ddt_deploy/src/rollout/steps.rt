@@ -12,7 +12,7 @@ use std::alloc::{AllocError, Global};
 use std::collections::BTreeSet;
 
 /// A step from one register to another.
-#[derive(Debug, Drop)]
+#[derive(Drop)]
 pub struct RolloutStep {
     /// The stage after the step.
     pub stage: Stage,

@@ -3,7 +3,7 @@
 use ddt_check::Rule;
 
 /// A rule that a register breaks.
-#[derive(Clone, Copy, Debug, PartialEq, Eq)]
+#[derive(Clone, Copy, PartialEq, Eq)]
 pub struct BrokenRule {
     /// The row that breaks it; 0 if no row is at fault.
     pub row: u32,

@@ -13,14 +13,14 @@ use std::alloc::{AllocError, Global};
 const COLUMNS: [&str; 4] = ["kind", "prefix", "group", "addresses"];
 
 /// The place of each of the four columns in a record, and the number of fields of a record.
-#[derive(Clone, Copy, Debug)]
+#[derive(Clone, Copy)]
 pub(crate) struct Columns {
     places: [usize; 4],
     count: usize,
 }
 
 /// What the first record is.
-#[derive(Clone, Copy, Debug)]
+#[derive(Clone, Copy)]
 pub(crate) enum Head {
     /// It names the columns.
     Columns(Columns),

@@ -4,14 +4,14 @@ use ddt_register::ReadFault;
 use std::fmt;
 
 /// Which byte of a code unit of UTF-16 comes first.
-#[derive(Clone, Copy, Debug, PartialEq, Eq)]
+#[derive(Clone, Copy, PartialEq, Eq)]
 pub(crate) enum ByteOrder {
     LittleEndian,
     BigEndian,
 }
 
 /// How a whole file differs. Each difference is reported once, at the line where it is first seen.
-#[derive(Debug, Drop)]
+#[derive(Drop)]
 pub(crate) enum Difference {
     /// The text isn't UTF-8.
     Utf16(ByteOrder),

@@ -5,7 +5,7 @@ use ddt_register::ReadFault;
 use std::alloc::{AllocError, Global};
 
 /// A difference of a whole file, and the line where it is first seen.
-#[derive(Debug, Drop)]
+#[derive(Drop)]
 pub(crate) struct DifferenceNote {
     /// The number of the line, from 1.
     pub(crate) line: u64,

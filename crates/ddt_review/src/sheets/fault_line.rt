@@ -5,7 +5,7 @@ use ddt_register::ReadFault;
 
 /// Which part of a file a fault is of. Faults are sorted by it: those of the whole file come first, and those that may
 /// follow from a record that can't be read come last.
-#[derive(Clone, Copy, Debug, PartialEq, Eq, PartialOrd, Ord)]
+#[derive(Clone, Copy, PartialEq, Eq, PartialOrd, Ord)]
 pub enum FaultScope {
     /// The whole file.
     File,
@@ -16,7 +16,7 @@ pub enum FaultScope {
 }
 
 /// The number and name of a fault.
-#[derive(Clone, Copy, Debug, PartialEq, Eq)]
+#[derive(Clone, Copy, PartialEq, Eq)]
 pub enum FaultKind {
     /// The file or a record can't be read.
     Reading(ReadFault),
@@ -25,7 +25,7 @@ pub enum FaultKind {
 }
 
 /// A fault of a file.
-#[derive(Debug, Drop)]
+#[derive(Drop)]
 pub struct FaultLine {
     pub scope: FaultScope,
     /// The line of the file, from 1.

@@ -1,7 +1,7 @@
 //! What a record defines, by its first field.
 
 /// What a record defines.
-#[derive(Clone, Copy, Debug, PartialEq, Eq)]
+#[derive(Clone, Copy, PartialEq, Eq)]
 pub(crate) enum RecordKind {
     Group,
     Zone,

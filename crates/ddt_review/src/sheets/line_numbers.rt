@@ -1,7 +1,7 @@
 //! The line numbers of places in a text, as an editor counts them.
 
 /// A place in a text, and its line number. It only moves forward.
-#[derive(Clone, Copy, Debug)]
+#[derive(Clone, Copy)]
 pub(crate) struct LineCursor<'a> {
     text: &'a [u8],
     place: usize,
@@ -9,7 +9,7 @@ pub(crate) struct LineCursor<'a> {
 }
 
 /// Where a record begins after blank lines and comments.
-#[derive(Clone, Copy, Debug)]
+#[derive(Clone, Copy)]
 struct Beginning {
     place: usize,
     /// The place of the first comment, if there is one.

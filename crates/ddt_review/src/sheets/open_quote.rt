@@ -1,7 +1,7 @@
 //! A quote that opens a field and isn't closed.
 
 /// A quote that opens a field which continues to the end of its file.
-#[derive(Clone, Copy, Debug, PartialEq, Eq)]
+#[derive(Clone, Copy, PartialEq, Eq)]
 pub(crate) struct OpenQuote {
     /// Where the quote is.
     pub(crate) place: usize,
@@ -10,7 +10,7 @@ pub(crate) struct OpenQuote {
 }
 
 /// What a byte is part of, as csv reads it.
-#[derive(Clone, Copy, Debug, PartialEq, Eq)]
+#[derive(Clone, Copy, PartialEq, Eq)]
 enum Part {
     /// The first byte of a line outside quotes.
     Start,

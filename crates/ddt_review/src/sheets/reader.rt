@@ -22,7 +22,7 @@ use ddt_register::{MOST_ROWS, ReadFault, read_row};
 use std::alloc::{AllocError, Global};
 
 /// How far a file is read.
-#[derive(Clone, Copy, Debug)]
+#[derive(Clone, Copy)]
 enum Stage {
     /// The next record is the first.
     Head,

@@ -9,7 +9,7 @@ use ddt_register::{Group, Register, Site, Zone};
 use std::alloc::{AllocError, Global};
 
 /// The reasons why rows of a register break rules, by the line of each row.
-#[derive(Clone, Copy, Debug)]
+#[derive(Clone, Copy)]
 pub(crate) struct RuleReasons<'a> {
     pub(crate) alloc: Global,
     pub(crate) register: &'a Register,

@@ -5,7 +5,7 @@ use crate::sheets::unread_records::UnreadRecord;
 use ddt_register::Register;
 
 /// A register's file, read as far as its meaning is clear.
-#[derive(Debug, Drop)]
+#[derive(Drop)]
 pub(crate) struct Sheet {
     /// The differences of the whole file, in the order in which they were found.
     pub(crate) differences: Vec<DifferenceNote>,

@@ -9,7 +9,7 @@ use ddt_register::{MOST_ROWS, ReadFault};
 use std::alloc::{AllocError, Global};
 
 /// A record that can't be read as a row.
-#[derive(Debug, Drop)]
+#[derive(Drop)]
 pub(crate) struct UnreadRecord {
     /// The line on which it begins, from 1.
     pub(crate) line: u64,

@@ -1,0 +1,6 @@
+//! Of `ddt_lines`, `ddt_commands`, `ddt_deploy` and `ddt_plan_commands`.
+
+pub mod companion;
+pub mod each_command;
+pub mod refused;
+pub mod words;

@@ -1,0 +1,4 @@
+//! Of what rolls a register out.
+
+pub mod folder;
+pub mod plan_commands;

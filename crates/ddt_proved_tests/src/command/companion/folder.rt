@@ -1,0 +1,4 @@
+//! Of `ddt_deploy::folders`.
+
+pub mod refused;
+pub mod registers;

@@ -1,0 +1,4 @@
+//! Of `ddt_plan_commands`.
+
+pub mod files;
+pub mod refused;

@@ -1,0 +1,3 @@
+//! Of the daemon's crates.
+
+pub mod registrations;

@@ -1,0 +1,4 @@
+//! Of what is read and written.
+
+pub mod messages;
+pub mod prefixes;

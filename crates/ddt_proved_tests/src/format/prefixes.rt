@@ -1,0 +1,3 @@
+//! Of `ddt_path` and `ddt_text`.
+
+pub mod refused;

@@ -1,0 +1,3 @@
+//! Of `ddt_sim`.
+
+pub mod schedules;

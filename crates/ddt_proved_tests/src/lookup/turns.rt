@@ -1,0 +1,3 @@
+//! Of `ddt_loop`.
+
+pub mod loopback;

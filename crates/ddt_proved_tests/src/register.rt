@@ -1,0 +1,5 @@
+//! Of the register, from CSV to what is compiled, and of `ddt_plan`.
+
+pub mod check;
+pub mod plan;
+pub mod refused;

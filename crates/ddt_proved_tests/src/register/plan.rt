@@ -1,0 +1,4 @@
+//! Of `ddt_plan`; `slow` has the plain bodies of blocks.
+
+pub mod refused;
+pub mod slow;

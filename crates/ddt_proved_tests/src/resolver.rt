@@ -1,0 +1,4 @@
+//! Of `ddt_cache` and `ddt_resolver`.
+
+pub mod calls;
+pub mod refused;

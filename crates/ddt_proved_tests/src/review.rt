@@ -1,0 +1,7 @@
+//! Of `ddt_review`, `ddt_organisations` and `ddt_report`.
+
+pub mod faults;
+pub mod report;
+pub mod seam;
+pub mod sheets;
+pub mod warnings;

@@ -1,0 +1,3 @@
+//! Of `ddt_review::faults`.
+
+pub mod refused;

@@ -1,0 +1,4 @@
+//! Of `ddt_report`.
+
+pub mod pages;
+pub mod refused;

@@ -1,0 +1,4 @@
+//! Of `ddt_organisations::seam`.
+
+pub mod refused;
+pub mod registers;

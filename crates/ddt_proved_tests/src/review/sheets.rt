@@ -1,0 +1,3 @@
+//! Of `ddt_review::sheets`.
+
+pub mod refused;

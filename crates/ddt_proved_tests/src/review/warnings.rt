@@ -1,0 +1,3 @@
+//! Of `ddt_review::warnings`.
+
+pub mod refused;

@@ -1,6 +1,6 @@
 use Rattle.std.proofs.Common.{refl}
 use Rattle.ddt_path.specs.Path.{digits}
-use Rattle.ddt_register_tests.proofs.check.a_ninth_row_breaks_its_rule.Goals as goal
+use Rattle.ddt_proved_tests.proofs.register.check.a_ninth_row_breaks_its_rule.Goals as goal
 
 pub returns : goal.returns
 unfolding digits

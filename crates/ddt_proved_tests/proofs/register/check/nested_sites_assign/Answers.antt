@@ -1,6 +1,6 @@
 use Rattle.std.proofs.Common.{refl}
 use Rattle.ddt_path.specs.Path.{digits}
-use Rattle.ddt_register_tests.proofs.check.nested_sites_assign.Goals as goal
+use Rattle.ddt_proved_tests.proofs.register.check.nested_sites_assign.Goals as goal
 
 pub returns : goal.returns
 unfolding digits

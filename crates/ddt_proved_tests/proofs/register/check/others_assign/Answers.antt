@@ -1,6 +1,6 @@
 use Rattle.std.proofs.Common.{refl}
 use Rattle.ddt_path.specs.Path.{digits}
-use Rattle.ddt_register_tests.proofs.check.others_assign.Goals as goal
+use Rattle.ddt_proved_tests.proofs.register.check.others_assign.Goals as goal
 
 pub returns : goal.returns
 unfolding digits

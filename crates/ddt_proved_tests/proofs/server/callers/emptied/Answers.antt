@@ -1,7 +1,7 @@
 use Rattle.std.proofs.Common.{◌∙◌, ap, rules}
 use Rattle.std.specs.FinMap.{insert}
 use Rattle.ddt_trie.specs.laws.Map.{emptied}
-use Rattle.ddt_server_tests.proofs.callers.emptied.Goals as goal
+use Rattle.ddt_proved_tests.proofs.server.callers.emptied.Goals as goal
 
 pub returns : goal.returns
 returns g c =

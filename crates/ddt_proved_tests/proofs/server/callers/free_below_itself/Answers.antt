@@ -1,7 +1,7 @@
 use Rattle.std.proofs.Common.{◌∙◌}
 use Rattle.ddt_path.specs.Path.{xeid_path}
 use Rattle.ddt_trie.specs.laws.Below.{free_below_alone}
-use Rattle.ddt_server_tests.proofs.callers.free_below_itself.Goals as goal
+use Rattle.ddt_proved_tests.proofs.server.callers.free_below_itself.Goals as goal
 
 pub returns : goal.returns
 returns g c =

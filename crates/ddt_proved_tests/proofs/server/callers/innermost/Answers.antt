@@ -2,7 +2,7 @@ use Rattle.std.proofs.Common.{◌∙◌, ap}
 use Rattle.std.specs.FinMap.{insert}
 use Rattle.ddt_path.specs.Path.{xeid_path}
 use Rattle.ddt_trie.specs.laws.Map.{innermost_found}
-use Rattle.ddt_server_tests.proofs.callers.innermost.Goals as goal
+use Rattle.ddt_proved_tests.proofs.server.callers.innermost.Goals as goal
 
 pub returns-in-Some : goal.returns-in-Some
 returns-in-Some g c =

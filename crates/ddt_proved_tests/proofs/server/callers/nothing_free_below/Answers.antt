@@ -1,6 +1,6 @@
 use Rattle.ddt_trie.specs.laws.Entry.{is_some-None}
 use Rattle.ddt_trie.specs.laws.Map.{inserted_key}
-use Rattle.ddt_server_tests.proofs.callers.nothing_free_below.Goals as goal
+use Rattle.ddt_proved_tests.proofs.server.callers.nothing_free_below.Goals as goal
 
 pub returns : goal.returns
 returns g c =

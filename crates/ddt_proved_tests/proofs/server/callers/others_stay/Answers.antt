@@ -1,7 +1,7 @@
 use Rattle.std.proofs.Common.{◌∙◌, ap}
 use Rattle.std.specs.FinMap.{get}
 use Rattle.ddt_trie.specs.laws.Map.{get-insert_other}
-use Rattle.ddt_server_tests.proofs.callers.others_stay.Goals as goal
+use Rattle.ddt_proved_tests.proofs.server.callers.others_stay.Goals as goal
 
 pub returns : goal.returns
 returns g c =

@@ -1,20 +1,18 @@
 -- What is found of an item, by what it has.
-use Rattle.std.proofs.Common.{◌≡◌, ℕ, zero, suc, Bool, true, false, not, cond, ◌+◌, ◌<◌, List, [], ◌∷◌, length, get_or, take, find, arith, Option, Some, None, refl, sym, ap, ◌∙◌, subst, inl, inr}
-use Rattle.std.specs.Prelude.{◌&&◌, Contains, is_some, MatchOption, IfSome}
+use Rattle.std.proofs.Common.{◌≡◌, ℕ, zero, suc, Bool, true, false, ◌+◌, ◌<◌, List, [], ◌∷◌, length, get_or, take, find, arith, Option, Some, None, refl, sym, ◌∙◌, subst}
+use Rattle.std.specs.Prelude.{◌&&◌, is_some, IfSome}
 use Rattle.std.specs.Fn.{FnReturnsAt}
 use denote.Ref.{Bor}
 use denote.Param.Members.{Shared}
 use Rattle.std.specs.List.{list_any}
 use Rattle.std.specs.Bool.{then_some}
-use Rattle.std.specs.Option.{option_map_or}
-use Rattle.std.proofs.lemmas.Bool.{or_from, or_parts, and_parts, and_from, both_ways, false≢true, false_from_ne_true, true_from_ne_false}
+use Rattle.std.proofs.lemmas.Bool.{or_from, or_parts, and_parts, and_from, both_ways, false≢true, false_from_ne_true}
 use Rattle.std.proofs.lemmas.List.Folds.{list_any_more}
 use Rattle.std.proofs.lemmas.List.Elements.{Contains-get_or}
 use Rattle.ddt_path.specs.declared.locator.Locator.{Locator}
 use Rattle.ddt_path.specs.Covers.{covers}
-use Rattle.ddt_path.specs.Matching.{longest_match}
 use Rattle.ddt_path.specs.declared.matches.Preference.TheVariants.{Longest}
-use Rattle.ddt_path.specs.laws.Member.{IsIn, none_of, in_any, any_in, iff_same, contained, in_contained, fails_at}
+use Rattle.ddt_path.specs.laws.Member.{none_of, in_any, any_in, iff_same, contained, in_contained}
 use Rattle.ddt_path.specs.laws.Matching.{best_member, best_there}
 use Rattle.ddt_register.specs.declared.site.Site.{Site}
 use Rattle.ddt_register.specs.declared.register.Register.{Register}

@@ -1,6 +1,6 @@
 -- What a warning names is what the register has: the first locator at fault in its row, the reason, and the rows of
 -- other items.
-use Rattle.std.specs.Prelude.{◌≡◌, ℕ, Bool, true, false, List, find, Some, Contains}
+use Rattle.std.specs.Prelude.{◌≡◌, ℕ, Bool, true, List, find, Some, Contains}
 use Rattle.ddt_path.specs.declared.locator.Locator.{Locator}
 use Rattle.ddt_path.specs.Locators.{lists}
 use Rattle.ddt_register.specs.declared.zone.Zone.{Zone}

@@ -50,8 +50,8 @@ fn tell<T: HasWarnings>(
     requires index { IsIndex index.now }
     requires items { items.now ≡ T.items_of (register_of index.now) }
     ensures each { OnOk result ((kind : AKind) (row : ℕ) → tells told.new.items kind row
-        ≡ (tells told.old.items kind row || item_at T.row_of (T.has (register_of index.now) (resolvers_of index.now) kind) items.now
-        row)) }
+        ≡ (tells told.old.items kind row
+        || item_at T.row_of (T.has (register_of index.now) (resolvers_of index.now) kind) items.now row)) }
     ensures named { OnOk result (All (IsTrueWarning (register_of index.now) (resolvers_of index.now)) told.old.items
         → All (IsTrueWarning (register_of index.now) (resolvers_of index.now)) told.new.items) }
 {

@@ -1,4 +1,4 @@
-use Rattle.std.proofs.Common.{◌≡◌, ℕ, Bool, ◌||◌, ◌==◌, List, [], rules, sym, ap, ◌∙◌, subst}
+use Rattle.std.proofs.Common.{Bool, ◌||◌, ◌==◌, List, [], rules, sym, ap, ◌∙◌, subst}
 use Rattle.std.specs.Prelude.{◌&&◌, All}
 use Rattle.std.proofs.lemmas.List.Elements.{All-nil, All-same}
 use Rattle.std.proofs.lemmas.List.Sorted.{answers_always, list_any-IsPermutation, All-permutation}

@@ -21,7 +21,7 @@ returns-clause-named c =
     let l = c.args.etr in (
       c.in_ok-group.field-0.now,
       subst (IsServerRow groups l)
-      (sym (c.in_ok-group.ensures.value ∙ ap (λ (a : ℕ × ℕ). get address_cmp c.args.index.now.servers a) c.address.ensures))
-      (c.requires.servers l),
+          (sym (c.in_ok-group.ensures.value ∙ ap (λ (a : ℕ × ℕ). get address_cmp c.args.index.now.servers a) c.address.ensures))
+          (c.requires.servers l),
       refl,
     )

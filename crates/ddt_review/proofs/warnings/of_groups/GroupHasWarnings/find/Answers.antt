@@ -1,4 +1,4 @@
-use Rattle.std.proofs.Common.{◌≡◌, List, Some, find, rules, ap, subst}
+use Rattle.std.proofs.Common.{List, rules, subst}
 use Rattle.ddt_path.specs.declared.locator.Locator.{Locator}
 use Rattle.ddt_review.specs.declared.warnings.kind.Kind.TheVariants.{UnreachableLocator, LocatorInsideEids}
 use Rattle.ddt_review.specs.Warnings.Index.{register_of, resolvers_of}

@@ -1,2 +1,3 @@
 pub mod RegistrationsLemmas
 pub mod NoncesLemmas
+pub mod SealsLemmas

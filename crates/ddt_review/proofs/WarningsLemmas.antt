@@ -3,6 +3,7 @@ pub mod AboveLemmas
 pub mod MarkLemmas
 pub mod OrderLemmas
 pub mod FoundLemmas
+pub mod NamedLemmas
 pub mod TellLemmas
 pub mod ServerLemmas
 pub mod DelegationLemmas

@@ -3,6 +3,7 @@ pub mod Names
 pub mod UnreachableReason
 pub mod Warnings
 pub mod Findings
+pub mod Named
 pub mod Found
 pub mod Index
 pub mod Lost

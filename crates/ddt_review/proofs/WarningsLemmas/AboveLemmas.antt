@@ -1,5 +1,5 @@
 -- The zone directly above another is the longest that covers all digits of its prefix but the last.
-use Rattle.std.proofs.Common.{◌≡◌, ℕ, ◌-◌, ◌<◌, ◌≤◌, Bool, true, false, not, List, length, take, find, Option, Some, None, refl, sym, ap, ◌∙◌, arith, inl, inr}
+use Rattle.std.proofs.Common.{◌≡◌, ℕ, ◌-◌, ◌<◌, Bool, true, not, List, length, take, Option, Some, None, refl, sym, ap, ◌∙◌, arith, inl, inr}
 use Rattle.std.specs.Prelude.{◌≢◌}
 use Rattle.std.specs.List.{list_any}
 use Rattle.std.proofs.lemmas.Bool.{cases_lt, and_parts, and_from, not_from_false, false_from_ne_true}
@@ -15,7 +15,7 @@ use Rattle.ddt_register.specs.declared.zone.Zone.{Zone}
 use Rattle.ddt_register.specs.declared.site.Site.{Site}
 use Rattle.ddt_register.specs.declared.register.Register.{Register}
 use Rattle.ddt_check.specs.Rules.{IsAccepted}
-use Rattle.ddt_check.specs.Zones.{is_between, is_direct_child, zone_of}
+use Rattle.ddt_check.specs.Zones.{is_between, is_direct_child}
 use Rattle.ddt_check.specs.laws.Zone.{zone_prefix}
 use Rattle.ddt_check.specs.laws.Child.{child_parts, one_parent}
 use Rattle.ddt_check.specs.laws.Kept.{one_zone, one_site}

@@ -1,17 +1,18 @@
 -- What is found of an item, by what it has.
-use Rattle.std.proofs.Common.{◌≡◌, ℕ, Bool, true, false, not, cond, ◌+◌, ◌<◌, List, length, get_or, take, Option, Some, None, refl, sym, ap, ◌∙◌, subst, inl, inr}
-use Rattle.std.specs.Prelude.{◌&&◌, Contains, is_some, MatchOption}
+use Rattle.std.proofs.Common.{◌≡◌, ℕ, zero, suc, Bool, true, false, ◌+◌, ◌<◌, List, [], ◌∷◌, length, get_or, take, find, arith, Option, Some, None, refl, sym, ◌∙◌, subst}
+use Rattle.std.specs.Prelude.{◌&&◌, is_some, IfSome}
+use Rattle.std.specs.Fn.{FnReturnsAt}
+use denote.Ref.{Bor}
+use denote.Param.Members.{Shared}
 use Rattle.std.specs.List.{list_any}
 use Rattle.std.specs.Bool.{then_some}
-use Rattle.std.specs.Option.{option_map_or}
-use Rattle.std.proofs.lemmas.Bool.{or_from, and_parts, and_from, both_ways, false≢true, false_from_ne_true, true_from_ne_false}
+use Rattle.std.proofs.lemmas.Bool.{or_from, or_parts, and_parts, and_from, both_ways, false≢true, false_from_ne_true}
 use Rattle.std.proofs.lemmas.List.Folds.{list_any_more}
 use Rattle.std.proofs.lemmas.List.Elements.{Contains-get_or}
 use Rattle.ddt_path.specs.declared.locator.Locator.{Locator}
 use Rattle.ddt_path.specs.Covers.{covers}
-use Rattle.ddt_path.specs.Matching.{longest_match}
 use Rattle.ddt_path.specs.declared.matches.Preference.TheVariants.{Longest}
-use Rattle.ddt_path.specs.laws.Member.{IsIn, none_of, in_any, any_in, iff_same, contained, in_contained, fails_at}
+use Rattle.ddt_path.specs.laws.Member.{none_of, in_any, any_in, iff_same, contained, in_contained}
 use Rattle.ddt_path.specs.laws.Matching.{best_member, best_there}
 use Rattle.ddt_register.specs.declared.site.Site.{Site}
 use Rattle.ddt_register.specs.declared.register.Register.{Register}
@@ -19,7 +20,7 @@ use Rattle.ddt_check.specs.Zones.{site_of}
 use Rattle.ddt_check.specs.laws.Zone.{site_prefix}
 use Rattle.ddt_review.specs.declared.warnings.kind.Kind.{Kind}
 use Rattle.ddt_review.specs.declared.warnings.warning.Finding.{Finding}
-use Rattle.ddt_review.specs.Warnings.Found.{IsWarningFound, AreNeighbours, HasNone}
+use Rattle.ddt_review.specs.Warnings.Found.{IsWarningFound, IsFoundFirst, AreNeighbours, HasNone}
 use Rattle.ddt_review.specs.Warnings.Findings.{kind_of}
 use Rattle.ddt_review.specs.Warnings.Warnings.{is_next, is_in_other_region, are_near, is_odd}
 
@@ -48,6 +49,29 @@ pub none_more : (has : Locator → Bool) (kind : Kind) (ls : List Locator) (i : 
 none_more has kind ls i d found lt here none before =
     list_any_more has ls i d lt ∙ or_from (list_any has (take i ls)) (has (get_or ls i d)) before
     (none_here (has (get_or ls i d)) kind found here none)
+
+-- what is found at the first locator that has it
+find_first : (has : Locator → Bool) (ls : List Locator) (i : ℕ) (d : Locator) → i < length ls
+    → list_any has (take i ls) ≡ false → has (get_or ls i d) ≡ true → find has ls ≡ Some (get_or ls i d)
+find_first has [] i d lt none here = absurd (omega arith)
+find_first has (l ∷ ls) zero d lt none here = rw here refl
+find_first has (l ∷ ls) (suc i) d lt none here =
+    let p = or_parts (has l) (list_any has (take i ls)) none in
+    rw p.0 (find_first has ls i d (omega arith) p.1 here)
+
+module _ {F : Type 0} (calls : Shared F (Bor Locator × Unit {0}) (Option Finding)) (f : F) (has : Locator → Bool)
+    (ls : List Locator) where
+  pub first_at : (kind : Kind) (i : ℕ) (d : Locator) (found : Option Finding) → i < length ls
+      → FnReturnsAt calls f (get_or ls i d) found → IsWarningFound (has (get_or ls i d)) kind found
+      → list_any has (take i ls) ≡ false → IfSome found (IsFoundFirst calls f has ls)
+  first_at kind i d None lt says here none = tt
+  first_at kind i d (Some w) lt says here none = (get_or ls i d, find_first has ls i d lt none here.0, says)
+
+  -- a fact of each finding at that locator
+  pub first_so : (P : Finding → Type 0) (found : Option Finding) → IfSome found (IsFoundFirst calls f has ls)
+      → ((l : Locator) (w : Finding) → find has ls ≡ Some l → FnReturnsAt calls f l (Some w) → P w) → IfSome found P
+  first_so P None first so = tt
+  first_so P (Some w) first so = so first.0 w first.1 first.2
 
 -- a site covers a path if and only if one is found
 pub covered_none : (r : Register) (x : List ℕ) → site_of r x ≡ None → list_any (λ s. covers s.prefix x) r.sites ≡ false

@@ -1,6 +1,6 @@
 -- Items that are kept by their prefixes: what one more item changes, and which one is the longest that covers a path.
 use Rattle.std.proofs.Common.{◌≡◌, ℕ, zero, suc, ◌+◌, ◌<◌, ◌≤◌, Bool, true, false, cond, List, [], ◌∷◌, length, get_or, take, find, Option, Some, None, refl, sym, ap, ◌∙◌, arith, inl, inr}
-use Rattle.std.specs.Prelude.{is_some, Contains}
+use Rattle.std.specs.Prelude.{is_some}
 use Rattle.std.specs.Option.{option_copied}
 use Rattle.std.specs.FinMap.{FinMap, get, contains_key, insert, len}
 use Rattle.std.specs.Cmp.Lexicographic.{nat_list_cmp_total}

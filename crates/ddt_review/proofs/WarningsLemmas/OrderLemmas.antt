@@ -1,19 +1,16 @@
 -- Sites in the order of their prefixes: the neighbours of a site stand beside it.
 use Rattle.std.proofs.Common.{◌≡◌, ℕ, ◌+◌, ◌-◌, ◌<◌, ◌≤◌, Bool, true, false, not, List, [], ◌∷◌, length, get_or, map, refl, sym, ap, subst, ◌∙◌, arith, inl, inr, IsPermutation}
-use Rattle.std.specs.Prelude.{◌&&◌, Contains}
+use Rattle.std.specs.Prelude.{◌&&◌}
 use Rattle.std.specs.List.{list_any}
 use Rattle.std.specs.List.Sorted.{IsPartitionPoint, IsPartitionedBy}
-use Rattle.std.specs.declared.cmp.Ordering.{Ordering}
-use Rattle.std.specs.declared.cmp.Ordering.TheVariants.{Less, Equal, Greater}
-use Rattle.std.specs.Ordering.{nat_cmp, is_lt, is_eq}
-use Rattle.std.specs.Cmp.Lexicographic.{slice_cmp, texts_ties, nat_list_cmp_total}
-use Rattle.std.proofs.lemmas.Bool.{cases_lt, and_parts, and_from, both_ways, not-true, not_from_false, false_from_ne_true, true_from_ne_false, false≢true, eqb-false}
+use Rattle.std.specs.Ordering.{is_lt}
+use Rattle.std.proofs.lemmas.Bool.{cases_lt, and_parts, and_from, both_ways, not-true, not_from_false, false_from_ne_true, true_from_ne_false, eqb-false}
 use denote.Ref.{Bor}
 use Rattle.std.specs.Prelude.{IsSorted}
 use Rattle.std.proofs.lemmas.List.{length-map, get_or-map}
 use Rattle.ddt_path.specs.Covers.{is_same_path}
 use Rattle.ddt_path.specs.laws.Cover.{same_path, path_itself}
-use Rattle.ddt_path.specs.laws.Member.{IsIn, none_of, in_any, fails_at, in_contained, contained, placed, placed_in}
+use Rattle.ddt_path.specs.laws.Member.{IsIn, none_of, fails_at, in_contained, contained, placed, placed_in}
 use Rattle.ddt_path.specs.laws.PathOrder.{IsUpTo, lt_after, same_from_ties, not_below_itself}
 use Rattle.ddt_register.specs.declared.site.Site.{Site}
 use Rattle.ddt_register.specs.declared.register.Register.{Register}

@@ -1,12 +1,11 @@
 -- What a list of warnings tells, with one more warning, and after all kinds.
-use Rattle.std.proofs.Common.{◌≡◌, ℕ, zero, suc, ◌+◌, ◌<◌, ◌≤◌, Bool, true, false, ◌||◌, ◌==◌, cond, List, [], ◌∷◌, ◌++◌, length, get_or, refl, sym, ap, ◌∙◌, arith, inl, inr}
+use Rattle.std.proofs.Common.{◌≡◌, ℕ, zero, suc, ◌+◌, ◌<◌, Bool, true, false, ◌||◌, ◌==◌, List, [], ◌∷◌, ◌++◌, get_or, refl, sym, ap, ◌∙◌, arith, inl, inr}
 use Rattle.std.specs.Prelude.{◌&&◌, nat_lt}
 use Rattle.std.specs.List.{list_any}
 use Rattle.std.proofs.lemmas.Bool.{cases_order, lt-ltb, le-ltb, eq-eqb, ne_eqb}
 use Rattle.std.proofs.lemmas.List.Folds.{list_any-append}
 use Rattle.ddt_review.specs.declared.warnings.kind.Kind.{Kind}
 use Rattle.ddt_review.specs.declared.warnings.kind.Kind.TheVariants as kinds
-use Rattle.ddt_review.specs.declared.warnings.warning.Finding.{Finding}
 use Rattle.ddt_review.specs.declared.warnings.warning.Warning.{Warning}
 use Rattle.ddt_review.specs.Warnings.Names.{kind_number}
 use Rattle.ddt_path.specs.declared.locator.Locator.{Locator}

@@ -15,7 +15,8 @@ use Rattle.ddt_path.specs.declared.locator.Locator.{Locator}
 use Rattle.ddt_path.specs.Locators.{lists}
 use Rattle.ddt_path.specs.Path.{family, address_number}
 use Rattle.ddt_register.specs.declared.group.Group.{Group}
-use Rattle.ddt_check.specs.Rules.{item_at}
+use Rattle.ddt_check.specs.Rules.{item_at, group_at}
+use Rattle.ddt_check.specs.Zones.{site_of}
 use Rattle.ddt_path.specs.Covers.{is_same_path}
 use Rattle.ddt_path.specs.Names.{is_same_name}
 use Rattle.ddt_trie.specs.PrefixMap.{path_cmp}
@@ -27,8 +28,11 @@ use Rattle.ddt_check.specs.Rules.{IsAccepted}
 use Rattle.ddt_trie.specs.Trie.{trie_content}
 use Rattle.ddt_review.specs.declared.warnings.zone_tree.ZoneTree.{ZoneTree}
 use Rattle.ddt_review.specs.declared.warnings.kind.Kind.{Kind}
+use Rattle.ddt_review.specs.declared.warnings.unreachable_locators.UnreachableReason.{UnreachableReason}
 use Rattle.ddt_review.specs.declared.warnings.warning.Finding.{Finding}
-use Rattle.ddt_review.specs.Warnings.Warnings.{has_child, has_child_outside, zone_above, is_next, is_usual, is_host, is_guest}
+use Rattle.ddt_review.specs.declared.warnings.warning.Finding.TheVariants as found
+use Rattle.ddt_review.specs.Warnings.UnreachableReason.{unreachable_reason}
+use Rattle.ddt_review.specs.Warnings.Warnings.{eid_path, has_child, has_child_outside, zone_above, is_next, is_usual, is_host, is_guest}
 use Rattle.ddt_review.specs.Warnings.Findings.{kind_of}
 
 -- each item is kept at its prefix, and nothing else is
@@ -112,11 +116,29 @@ AreListedInOrder r order = IsPermutation r.sites (map (λ s. s.now) order) × Ar
 abbrev pub IsWarningFound : Bool → Kind → Option Finding → Type 0
 IsWarningFound has kind found = MatchOption found (has ≡ false) (λ f. (has ≡ true) × (kind_of f ≡ kind))
 
+-- the finding is of this locator, with the reason why it can't be reached
+abbrev pub IsReasoned : (Locator → UnreachableReason → Finding) → Locator → Finding → Type 0
+IsReasoned of l f = (reason : UnreachableReason) × (unreachable_reason l ≡ Some reason) × (f ≡ of l reason)
+
+-- the finding is of this locator, with the row of a group that lists it
+abbrev pub IsOfServer : Register → Locator → Finding → Type 0
+IsOfServer r l f = (row : ℕ) × (group_at r row (λ g. lists g.locators l) ≡ true) × (f ≡ found.EtrIsServer l row)
+
+-- the finding is of this locator, with the row of the longest site over it
+abbrev pub IsOfSiteOver : Register → Locator → Finding → Type 0
+IsOfSiteOver r l f = (s : Site) × (site_of r (eid_path l) ≡ Some s) × (f ≡ found.LocatorInsideEids l s.row)
+
 -- a search answers so at each locator
 abbrev pub FindsAs : {F : Type 0} → Shared F (Bor Locator × Unit {0}) (Option Finding) → F → (Locator → Bool) → Kind
     → Type 0
 FindsAs calls find has kind =
     (l : _) (found : Option Finding) → FnReturnsAt calls find l found → IsWarningFound (has l) kind found
+
+-- the search answers so at the first locator of a list that has it
+abbrev pub IsFoundFirst : {F : Type 0} → Shared F (Bor Locator × Unit {0}) (Option Finding) → F → (Locator → Bool)
+    → List Locator → Finding → Type 0
+IsFoundFirst calls search_at has ls f =
+    (l : Locator) × (find has ls ≡ Some l) × FnReturnsAt calls search_at l (Some f)
 
 -- the sites just before and just after a site
 pub record AreNeighbours (r : Register) (s a b : Site) : Type 0 where

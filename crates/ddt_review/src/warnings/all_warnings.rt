@@ -1,11 +1,12 @@
 //! The warnings of a register.
 
-ghost use Rattle.std.specs.Prelude.{◌≡◌, ◌||◌, ◌&&◌, ◌==◌, ℕ, IfOk, OnOk, IsSorted};
+ghost use Rattle.std.specs.Prelude.{◌≡◌, ◌||◌, ◌&&◌, ◌==◌, ℕ, All, IfOk, OnOk, IsSorted};
 ghost use Rattle.std.specs.List.{Contains};
 ghost use Rattle.ddt_check.specs.Rules.{item_at};
 ghost use Rattle.ddt_review.specs.declared.warnings.kind.Kind.{Kind as AKind};
 ghost use Rattle.ddt_review.specs.Warnings.Findings.{tells, in_told_order};
 ghost use Rattle.ddt_review.specs.Warnings.Index.{IsIndex, register_of, resolvers_of};
+ghost use Rattle.ddt_review.specs.Warnings.Named.{IsTrueWarning};
 ghost use Rattle.ddt_review.specs.Warnings.Warnings.{warns};
 
 use crate::warnings::has_warnings::HasWarnings;
@@ -26,6 +27,8 @@ pub fn warnings(
 ) -> Result<Vec<Warning>, AllocError>
     ensures each { IfOk result (λ told. (kind : AKind) (row : ℕ)
         → tells told.items kind row ≡ warns accepted.now resolvers.now kind row) }
+    // What a warning names, a locator, a reason or another row, is what the register has.
+    ensures named { IfOk result (λ told. All (IsTrueWarning accepted.now resolvers.now) told.items) }
     ensures order { IfOk result (λ told. IsSorted in_told_order told.items) }
 {
     let index = Index::of(alloc, accepted, resolvers)?;
@@ -46,9 +49,11 @@ fn tell<T: HasWarnings>(
 ) -> Result<(), AllocError>
     requires index { IsIndex index.now }
     requires items { items.now ≡ T.items_of (register_of index.now) }
-    ensures { OnOk result ((kind : AKind) (row : ℕ) → tells told.new.items kind row
-        ≡ (tells told.old.items kind row || item_at T.row_of (T.has (register_of index.now) (resolvers_of index.now) kind) items.now
-        row)) }
+    ensures each { OnOk result ((kind : AKind) (row : ℕ) → tells told.new.items kind row
+        ≡ (tells told.old.items kind row
+        || item_at T.row_of (T.has (register_of index.now) (resolvers_of index.now) kind) items.now row)) }
+    ensures named { OnOk result (All (IsTrueWarning (register_of index.now) (resolvers_of index.now)) told.old.items
+        → All (IsTrueWarning (register_of index.now) (resolvers_of index.now)) told.new.items) }
 {
     for item in items {
         tell_item(told, index, item)?;
@@ -63,9 +68,11 @@ fn tell_item<T: HasWarnings>(
 ) -> Result<(), AllocError>
     requires index { IsIndex index.now }
     requires member { Contains (T.items_of (register_of index.now)) item.now }
-    ensures { OnOk result ((kind : AKind) (row : ℕ) → tells told.new.items kind row
+    ensures each { OnOk result ((kind : AKind) (row : ℕ) → tells told.new.items kind row
         ≡ (tells told.old.items kind row
         || (T.row_of item.now == row && T.has (register_of index.now) (resolvers_of index.now) kind item.now))) }
+    ensures named { OnOk result (All (IsTrueWarning (register_of index.now) (resolvers_of index.now)) told.old.items
+        → All (IsTrueWarning (register_of index.now) (resolvers_of index.now)) told.new.items) }
 {
     for kind in Kind::ALL {
         if let Some(finding) = item.find(index, kind) {

@@ -1,9 +1,9 @@
 //! The warnings of groups.
 
-ghost use Rattle.std.specs.Prelude.{◌≡◌};
+ghost use Rattle.std.specs.Prelude.{◌≡◌, IfSome};
 ghost use Rattle.std.specs.Option.{option_copied};
 ghost use Rattle.ddt_check.specs.Zones.{site_of};
-ghost use Rattle.ddt_review.specs.Warnings.Found.{IsWarningFound};
+ghost use Rattle.ddt_review.specs.Warnings.Found.{IsWarningFound, IsReasoned, IsOfSiteOver};
 ghost use Rattle.ddt_review.specs.Warnings.Index.{IsIndex, register_of};
 ghost use Rattle.ddt_review.specs.Warnings.UnreachableReason.{is_unreachable};
 ghost use Rattle.ddt_review.specs.Warnings.Warnings.{group_has, is_inside_eids as is_inside_eids_of, is_named as is_named_of, eid_path};
@@ -38,7 +38,8 @@ impl HasWarnings for Group {
 /// Whether a locator can't be reached from elsewhere.
 fn unreachable_locator(index: &Index, locator: Locator) -> Option<Finding>
     requires { IsIndex index.now }
-    ensures { IsWarningFound (is_unreachable (register_of index.now) locator) Kind.UnreachableLocator result }
+    ensures found { IsWarningFound (is_unreachable (register_of index.now) locator) Kind.UnreachableLocator result }
+    ensures named { IfSome result (IsReasoned Finding.UnreachableLocator locator) }
 {
     let reason = unreachable_reason(locator)?;
     is_out_of_reach(index.is_rig, Some(reason)).then_some(Finding::UnreachableLocator {
@@ -50,7 +51,8 @@ fn unreachable_locator(index: &Index, locator: Locator) -> Option<Finding>
 /// Whether a site covers a locator, as an identifier of instance 0.
 fn locator_inside_eids(index: &Index, locator: Locator) -> Option<Finding>
     requires { IsIndex index.now }
-    ensures { IsWarningFound (is_inside_eids_of (register_of index.now) locator) Kind.LocatorInsideEids result }
+    ensures found { IsWarningFound (is_inside_eids_of (register_of index.now) locator) Kind.LocatorInsideEids result }
+    ensures named { IfSome result (IsOfSiteOver (register_of index.now) locator) }
 {
     let site = site_over(index, locator)?;
     Some(Finding::LocatorInsideEids {

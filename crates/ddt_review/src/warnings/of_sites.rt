@@ -1,13 +1,14 @@
 //! The warnings of sites.
 
-ghost use Rattle.std.specs.Prelude.{◌≡◌, ◌<◌, ◌&&◌, drop, length};
+ghost use Rattle.std.specs.Prelude.{◌≡◌, ◌<◌, ◌&&◌, drop, length, IfSome};
 ghost use Rattle.ddt_path.specs.Covers.{covers};
 ghost use Rattle.ddt_path.specs.Path.{address_path};
 ghost use Rattle.std.specs.List.{Contains, count_by};
 ghost use Rattle.ddt_path.specs.Locators.{is_same_locator, lists};
 ghost use Rattle.std.specs.Option.{option_copied};
-ghost use Rattle.ddt_review.specs.Warnings.Found.{IsWarningFound};
+ghost use Rattle.ddt_review.specs.Warnings.Found.{IsWarningFound, IsReasoned, IsOfServer};
 ghost use Rattle.ddt_review.specs.Warnings.Index.{IsIndex, register_of, resolvers_of};
+ghost use Rattle.ddt_review.specs.Warnings.Named.{IsTrueFinding};
 ghost use Rattle.ddt_review.specs.Warnings.UnreachableReason.{is_unreachable};
 ghost use Rattle.ddt_review.specs.Warnings.Warnings.{site_has, is_repeated as is_repeated_of, is_server, is_inside_site as is_inside_site_of, is_in_other_region, len_above as len_above_of, are_near as are_near_sites, is_odd as is_odd_site, have_one_group as have_one_group_of};
 
@@ -43,7 +44,8 @@ impl HasWarnings for Site {
 /// Whether an ETR can't be reached from elsewhere.
 fn unreachable_etr(index: &Index, etr: Locator) -> Option<Finding>
     requires { IsIndex index.now }
-    ensures { IsWarningFound (is_unreachable (register_of index.now) etr) Kind.UnreachableEtr result }
+    ensures found { IsWarningFound (is_unreachable (register_of index.now) etr) Kind.UnreachableEtr result }
+    ensures named { IfSome result (IsReasoned Finding.UnreachableEtr etr) }
 {
     let reason = unreachable_reason(etr)?;
     is_out_of_reach(index.is_rig, Some(reason)).then_some(Finding::UnreachableEtr { etr, reason })
@@ -51,7 +53,8 @@ fn unreachable_etr(index: &Index, etr: Locator) -> Option<Finding>
 
 /// Whether an ETR occurs more than once in a site, which has at most 8.
 fn repeated_etr(site: &Site, etr: Locator) -> Option<Finding>
-    ensures { IsWarningFound (is_repeated_of site.now.etrs etr) Kind.RepeatedEtr result }
+    ensures found { IsWarningFound (is_repeated_of site.now.etrs etr) Kind.RepeatedEtr result }
+    ensures named { IfSome result (λ f. f ≡ Finding.RepeatedEtr etr) }
 {
     is_repeated(site.etrs.as_slice(), etr).then_some(Finding::RepeatedEtr { etr })
 }
@@ -72,7 +75,8 @@ fn times(etrs: &[Locator], etr: Locator) -> usize
 /// Whether an ETR is a locator of a group.
 fn etr_is_server(index: &Index, etr: Locator) -> Option<Finding>
     requires { IsIndex index.now }
-    ensures { IsWarningFound (is_server (register_of index.now) etr) Kind.EtrIsServer result }
+    ensures found { IsWarningFound (is_server (register_of index.now) etr) Kind.EtrIsServer result }
+    ensures named { IfSome result (IsOfServer (register_of index.now) etr) }
 {
     let group = *index.servers.get(&address(etr))?;
     Some(Finding::EtrIsServer { etr, group })
@@ -81,7 +85,8 @@ fn etr_is_server(index: &Index, etr: Locator) -> Option<Finding>
 /// Whether an ETR is a known Map-Resolver's address.
 fn etr_is_resolver(index: &Index, etr: Locator) -> Option<Finding>
     requires { IsIndex index.now }
-    ensures { IsWarningFound (lists (resolvers_of index.now) etr) Kind.EtrIsResolver result }
+    ensures found { IsWarningFound (lists (resolvers_of index.now) etr) Kind.EtrIsResolver result }
+    ensures named { IfSome result (λ f. f ≡ Finding.EtrIsResolver etr) }
 {
     let is_known = index.known.contains(&address(etr));
     is_known.then_some(Finding::EtrIsResolver { etr })
@@ -89,7 +94,8 @@ fn etr_is_resolver(index: &Index, etr: Locator) -> Option<Finding>
 
 /// Whether an ETR's address is inside its own site's EID-prefix.
 fn etr_inside_site(site: &Site, etr: Locator) -> Option<Finding>
-    ensures { IsWarningFound (is_inside_site_of site.now etr) Kind.EtrInsideSite result }
+    ensures found { IsWarningFound (is_inside_site_of site.now etr) Kind.EtrInsideSite result }
+    ensures named { IfSome result (λ f. f ≡ Finding.EtrInsideSite etr) }
 {
     is_inside_site(site, etr).then_some(Finding::EtrInsideSite { etr })
 }
@@ -113,7 +119,10 @@ fn covers_address(prefix: Prefix, address: Locator) -> bool
 fn in_other_region(index: &Index, site: &Site) -> Option<Finding>
     requires index { IsIndex index.now }
     requires member { Contains (register_of index.now).sites site.now }
-    ensures { IsWarningFound (is_in_other_region (register_of index.now) site.now) Kind.SiteInOtherRegion result }
+    ensures found { IsWarningFound (is_in_other_region (register_of index.now) site.now) Kind.SiteInOtherRegion
+        result }
+    ensures named { IfSome result
+        (IsTrueFinding (register_of index.now) (resolvers_of index.now) site.now.row) }
 {
     let (before, behind) = neighbours(index.order.as_slice(), site)?;
     is_other(index, site, before, behind).then_some(Finding::SiteInOtherRegion {

@@ -1,11 +1,12 @@
 //! The warnings of zones.
 
-ghost use Rattle.std.specs.Prelude.{◌≡◌, ◌&&◌, not, false, Some};
+ghost use Rattle.std.specs.Prelude.{◌≡◌, ◌&&◌, not, false, Some, IfSome};
 ghost use Rattle.std.specs.Option.{option_map_or};
 ghost use Rattle.std.specs.List.{Contains};
 ghost use Rattle.ddt_check.specs.Zones.{is_ms};
 ghost use Rattle.ddt_review.specs.Warnings.Found.{IsWarningFound};
-ghost use Rattle.ddt_review.specs.Warnings.Index.{IsIndex, register_of};
+ghost use Rattle.ddt_review.specs.Warnings.Index.{IsIndex, register_of, resolvers_of};
+ghost use Rattle.ddt_review.specs.Warnings.Named.{IsTrueFinding};
 ghost use Rattle.ddt_review.specs.Warnings.Warnings.{zone_has, zone_above, is_zone_between, has_child as has_child_of, has_child_outside as has_child_outside_of, is_put_under as is_put_under_of, is_strange as is_strange_of, is_of_strange_group as is_of_strange_group_of};
 
 use crate::warnings::delegations::delegation_of;
@@ -83,7 +84,9 @@ fn is_put_under(index: &Index, zone: &Zone, above: &Zone) -> bool
 fn zone_between(index: &Index, zone: &Zone) -> Option<Finding>
     requires index { IsIndex index.now }
     requires member { Contains (register_of index.now).zones zone.now }
-    ensures { IsWarningFound (is_zone_between (register_of index.now) zone.now) Kind.ZoneBetween result }
+    ensures found { IsWarningFound (is_zone_between (register_of index.now) zone.now) Kind.ZoneBetween result }
+    ensures named { IfSome result
+        (IsTrueFinding (register_of index.now) (resolvers_of index.now) zone.now.row) }
 {
     let above = index.tree.zone_above(zone)?;
     let is_between = is_of_nodes(zone) && is_put_under(index, zone, above);

@@ -1,4 +1,4 @@
-use Rattle.std.proofs.Common.{◌≡◌, ℕ, List, ◌++◌, length, take, drop, sym, ap, ◌∙◌, arith}
+use Rattle.std.proofs.Common.{◌≡◌, ℕ, length, drop, ap, ◌∙◌, arith}
 use Rattle.ddt_path.specs.Covers.{covers}
 use Rattle.ddt_path.specs.DigitLemmas.{length-digits}
 use Rattle.ddt_path.specs.Path.{digits, address_path}

@@ -7,8 +7,8 @@ use Rattle.ddt_review.specs.Warnings.Index.{resolvers_of}
 use Rattle.ddt_review.proofs.WarningsLemmas.FoundLemmas.{found_then}
 use Rattle.ddt_review.proofs.warnings.of_sites.etr_is_resolver.Goals as goal
 
-pub returns : goal.returns
-returns c =
+pub returns-clause-found : goal.returns-clause-found
+returns-clause-found c =
     let l = c.args.etr in
     found_then (lists (resolvers_of c.args.index.now) l) c.contains-is_known.result EtrIsResolver _ c.then_some.result
     c.then_some.ensures refl

@@ -1,4 +1,4 @@
-use Rattle.std.proofs.Common.{◌≡◌, ℕ, Bool, true, cond, List, get_or, take, sym, ap, ◌∙◌}
+use Rattle.std.proofs.Common.{ℕ, Bool, true, cond, List, get_or, take, sym, ap, ◌∙◌}
 use Rattle.std.specs.Ordering.{is_eq}
 use Rattle.std.specs.BTreeSet.{contains}
 use Rattle.std.proofs.lemmas.List.{take_all}

@@ -1,2 +1,4 @@
 pub mod RegistrationsLemmas
 pub mod NoncesLemmas
+pub mod ShapeLemmas
+pub mod PositiveEndsLemmas

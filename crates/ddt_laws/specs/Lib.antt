@@ -1,2 +1,3 @@
 pub mod Registrations
 pub mod Nonces
+pub mod PositiveEnds

@@ -2,3 +2,4 @@ pub mod RegistrationsLemmas
 pub mod NoncesLemmas
 pub mod ShapeLemmas
 pub mod PositiveEndsLemmas
+pub mod ReplacedEndsLemmas

@@ -1,3 +1,4 @@
 pub mod Registrations
 pub mod Nonces
 pub mod PositiveEnds
+pub mod ReplacedEnds

@@ -47,8 +47,9 @@ AreRepliesFair r me calls =
 
 -- ---- the ends
 
--- a lookup that has ended: how, and the requests of the ITRs that waited for it
+-- a lookup that has ended: its ticket, how, and the requests of the ITRs that waited for it
 pub record Finished : Type 0 where
+  pub ticket : ℕ
   pub end : Result Outcome Why
   pub requests : List ItrRequest
 
@@ -61,7 +62,7 @@ abbrev pub finished : {Ends : End → Type 0} → ((e : End) → Ends e → ItrR
     → (ended : Option End) → MayEndBy Ends ended → List Finished
 finished begun_for kept None ends = []
 finished begun_for kept (Some e) ends =
-    record { end = e.end; requests = begun_for e ends ∷ requests_for e.ticket kept } ∷ []
+    record { ticket = e.ticket; end = e.end; requests = begun_for e ends ∷ requests_for e.ticket kept } ∷ []
 
 -- the lookup that a datagram has ended
 abbrev pub ended_by_reply : {me : Locator} {now : ℕ} {p : Packet} {bytes : List ℕ} {w : Resolving} {near far : List Call}

@@ -1,5 +1,5 @@
 -- A lookup that ends with an outcome ends as the register assigns, and as registered only by one of the servers assigned.
-use Rattle.std.proofs.Common.{◌≡◌, ℕ, true, List, Option, Some, None, Result, Ok, Err, refl, sym, ap, ◌∙◌}
+use Rattle.std.proofs.Common.{◌≡◌, ℕ, List, Some, Result, Ok, Err, refl, sym, ap, ◌∙◌}
 use Rattle.std.specs.Prelude.{◌≤◌}
 use Rattle.std.specs.FinMap.{get}
 use Rattle.ddt_path.specs.declared.action.Action.{Action}
@@ -8,7 +8,6 @@ use Rattle.ddt_path.specs.declared.locator.Locator.{Locator}
 use Rattle.ddt_path.specs.declared.record.Outcome.{Outcome}
 use Rattle.ddt_path.specs.declared.record.Outcome.TheVariants.{Registered}
 use Rattle.ddt_path.specs.declared.record.ReferralRecord.{ReferralRecord}
-use Rattle.ddt_path.specs.Locators.{lists}
 use Rattle.ddt_path.specs.Path.{xeid_path}
 use Rattle.ddt_register.specs.declared.register.Register.{Register}
 use Rattle.ddt_check.specs.Assignment.{assignment}
@@ -30,18 +29,20 @@ use Rattle.ddt_resolver.specs.State.{State, moved}
 use Rattle.ddt_resolver.specs.Step.{ResolverCall, Ask, Hear, Tick, Step, progress_of}
 use Rattle.ddt_resolver.specs.laws.Shape as moves
 use Rattle.ddt_resolver.specs.laws.Shape.{Move, Leaves, goes_sends, moved_by_step}
-use Rattle.ddt_sim.specs.Sound.{IsFair, IsRight, IsRightHeard, IsRightTicked, IsRightEnd, IsRightWhy}
+use Rattle.ddt_sim.specs.Sound.{IsSound, IsFair, IsRight, IsRightHeard, IsRightTicked, IsRightEnd, IsRightWhy}
 use Rattle.ddt_loop.specs.declared.packet_outcome.Ended.{Ended as End}
 use Rattle.ddt_loop.specs.declared.requester.Requester.TheVariants.{Itr}
 use Rattle.ddt_loop.specs.declared.requester.WaitingRequester.{WaitingRequester}
 use Rattle.ddt_loop.specs.Requesters.{TakesOff}
-use Rattle.ddt_loop.specs.Acts.{Running, running}
+use Rattle.ddt_loop.specs.Acts.{Running}
 use Rattle.ddt_loop.specs.Ends.{EndsBy, EndsByHaste}
 use Rattle.ddt_laws.specs.PositiveEnds.{IsAssigned}
 use Rattle.ddt_laws.proofs.ShapeLemmas.{Shape, stays, sends, drops, of_step, of_haste}
-use Rattle.ddt_laws.proofs.PositiveEndsLemmas.SayLemmas.{acks_own}
+use Rattle.ddt_laws.proofs.PositiveEndsLemmas.SayLemmas.{IsAssignedBy, acks_own}
 use Rattle.ddt_laws.proofs.PositiveEndsLemmas.ForLemmas.{IsFor, IsOwnOf, of_taken}
-use Rattle.ddt_laws.proofs.PositiveEndsLemmas.HoldLemmas.{Grounds, Holds, hold_moved}
+use Rattle.ddt_laws.proofs.PositiveEndsLemmas.WaitLemmas.{Waits, wait_moved}
+use Rattle.ddt_laws.proofs.PositiveEndsLemmas.StandLemmas.{Grounds, Stands, stands_moved}
+use Rattle.ddt_laws.proofs.PositiveEndsLemmas.CloseLemmas.{EndsWell}
 
 -- ---- what a reply tells
 
@@ -77,47 +78,50 @@ right_end r s (Hear source bytes) (ToTick h) t end right is = ticked_right r s h
 right_end r s Tick (ToTick h) t end right is = ticked_right r s h t end right is
 
 -- a lookup that ends was pending
-was_pending : {s new : State} {a : Reply} {t : ℕ} {end : Result Outcome Why} → Shape s new a → progress_of a ≡ Ends t end → (l : Pending) × (get s.pending t ≡ Some l)
+pub was_pending : {s new : State} {a : Reply} {t : ℕ} {end : Result Outcome Why} → Shape s new a → progress_of a ≡ Ends t end → (l : Pending) × (get s.pending t ≡ Some l)
 was_pending (stays p n q) is = absurd (cc (q, is))
 was_pending (sends u l from p n q) is = absurd (cc (q, is))
 was_pending {s} {t = t} (drops u l e here p n q) is = let same : u ≡ t = cc (q, is) in (l, rw same at here)
 
 -- ---- an end
 
--- a lookup has ended as assigned, for the request that it began for, and for each that knows its ticket
-pub record EndsWell (r : Register) (s : State) (e : End) (begun_for : ItrRequest) : Type 0 where
-  pub first : IsAssigned r e.end begun_for
-  pub others : (q : ItrRequest) → IsFor s e.ticket q.xeid → IsAssigned r e.end q
-
 assigned_for : (r : Register) (now t : ℕ) (s : State) (end : Result Outcome Why) (l : Pending) → EndsRight r (moved now s) t end → get s.pending t ≡ Some l
     → (q : ItrRequest) → IsFor s t q.xeid → IsAssigned r end q
 assigned_for r now t s (Ok o) l right here q h = right l here ∙ ap (λ y. assignment r (xeid_path y)) (h.same l here)
 assigned_for r now t s (Err why) l right here q h = tt
 
-module _ {r : Register} (g : Grounds r) {me : Locator} {calls : List Call} {w : Running} (h : Holds r me calls w) (now : ℕ) (le : now ≤ last_moment) where
+-- what is assigned, whatever the ticket is
+abbrev pub Assigned : Register → ℕ → Result Outcome Why → ItrRequest → Type 0
+Assigned r t = IsAssigned r
+
+module _ {r : Register} (g : Grounds r) {me : Locator} {calls : List Call} {w : Running} (h : Waits w) (j : Stands r me calls w.state) (now : ℕ) (le : now ≤ last_moment) where
   abbrev s : State
   s = moved now w.state
 
-  abbrev o : Holds r me calls (running s w.desk)
-  o = (hold_moved g h now le).holds
+  abbrev o : IsStateInOrder s
+  o = (wait_moved h now le).waits.order
+
+  abbrev sound : IsSound r s
+  sound = (stands_moved g j now).sound
 
   well : {a : Reply} {new : State} (e : End) (after : List WaitingRequester) (q : ItrRequest) → Shape s new a → progress_of a ≡ Ends e.ticket e.end
-      → EndsRight r s e.ticket e.end → TakesOff e.ticket w.desk.waiting after (Some (Itr q)) → EndsWell r w.state e q
+      → EndsRight r s e.ticket e.end → TakesOff e.ticket w.desk.waiting after (Some (Itr q)) → EndsWell (Assigned r) w.state e q
   well e after q shape ends right takes =
       let l = was_pending shape ends in
       let others = assigned_for r now e.ticket w.state e.end l.0 right l.1 in
       record { first = others q (of_taken takes (IsOwnOf w.state) h.asked_for); others = others }
 
-  pub ends_by : {call : ResolverCall} {new : State} {after : List WaitingRequester} (e : End) → IsFair r s call → (by : EndsBy call s new w.desk.waiting after e)
-      → EndsWell r w.state e by.request
-  ends_by {call} {new} {after} e fair by =
-      let right = (g.steps r s call new by.reply g.accepted o.order o.sound fair by.step).1 in
-      well e after by.request (of_step o.order by.step).shape by.ends (right_end r s call by.reply e.ticket e.end right by.ends) by.takes
+  pub ends_by : {call : ResolverCall} {new : State} {after : List WaitingRequester} (e : End) → IsFair r s call → (by_ : EndsBy call s new w.desk.waiting after e)
+      → EndsWell (Assigned r) w.state e by_.request
+  ends_by {call} {new} {after} e fair by_ =
+      let right = (g.steps r s call new by_.reply g.accepted o sound fair by_.step).1 in
+      well e after by_.request (of_step o by_.step).shape by_.ends (right_end r s call by_.reply e.ticket e.end right by_.ends) by_.takes
 
-  pub ends_by_haste : {nonce : ℕ} {new : State} {after : List WaitingRequester} (e : End) → (by : EndsByHaste nonce s new w.desk.waiting after e) → EndsWell r w.state e by.request
-  ends_by_haste {nonce} {new} {after} e by =
-      let right = (g.hastening r s nonce new by.ticked g.accepted o.order o.sound by.step).1 in
-      well e after by.request (of_haste o.order by.step).shape by.ends (ticked_right r s by.ticked e.ticket e.end right by.ends) by.takes
+  pub ends_by_haste : {nonce : ℕ} {new : State} {after : List WaitingRequester} (e : End) → (by_ : EndsByHaste nonce s new w.desk.waiting after e)
+      → EndsWell (Assigned r) w.state e by_.request
+  ends_by_haste {nonce} {new} {after} e by_ =
+      let right = (g.hastening r s nonce new by_.ticked g.accepted o sound by_.step).1 in
+      well e after by_.request (of_haste o by_.step).shape by_.ends (ticked_right r s by_.ticked e.ticket e.end right by_.ends) by_.takes
 
 -- ---- an end as registered
 
@@ -128,11 +132,6 @@ acked MsAck p q own servers is = refl
 acked MsNotRegistered p q own servers is = absurd (cc is)
 acked DelegationHole p q own servers is = absurd (cc is)
 acked NotAuthoritative p q own servers is = absurd (cc is)
-
--- what the register assigns to an identifier is registered, and this is one of the servers
-pub record IsAssignedBy (r : Register) (x p : List ℕ) (servers : List Locator) (by_ : Locator) : Type 0 where
-  pub registered : assignment r x ≡ Registered p servers
-  pub among_them : lists servers by_ ≡ true
 
 module _ {r : Register} (g : Grounds r) (s : State) (order : IsStateInOrder s) (from : Locator) (heard : List ℕ) (fair : IsFair r s (Hear from heard)) (new : State) (a : Reply)
     (step : Step s (Hear from heard) new a) (t : ℕ) (p : List ℕ) (servers : List Locator) (ends : progress_of a ≡ Ends t (Ok (Registered p servers)))
@@ -168,20 +167,18 @@ module _ {r : Register} (g : Grounds r) (s : State) (order : IsStateInOrder s) (
   registered_by : IsAssignedBy r (xeid_path l.x) p servers from
   registered_by = by_move (moved_by_step s order (Hear from heard) new a step).move
 
-module _ {r : Register} (g : Grounds r) {me : Locator} {calls : List Call} {w : Running} (h : Holds r me calls w) (now : ℕ) (le : now ≤ last_moment) where
-  abbrev s_ : State
-  s_ = moved now w.state
-
+module _ {r : Register} (g : Grounds r) {me : Locator} {calls : List Call} {w : Running} (h : Waits w) (j : Stands r me calls w.state) (now : ℕ) (le : now ≤ last_moment) where
   -- what a datagram of a server ends as registered is assigned so, and this is one of its servers
-  pub ends_registered : {from : Locator} {heard : List ℕ} {new : State} {after : List WaitingRequester} (e : End) → IsFair r s_ (Hear from heard)
-      → EndsBy (Hear from heard) s_ new w.desk.waiting after e → (p : List ℕ) (servers : List Locator) → e.end ≡ Ok (Registered p servers)
+  pub ends_registered : {from : Locator} {heard : List ℕ} {new : State} {after : List WaitingRequester} (e : End) → IsFair r (moved now w.state) (Hear from heard)
+      → EndsBy (Hear from heard) (moved now w.state) new w.desk.waiting after e → (p : List ℕ) (servers : List Locator) → e.end ≡ Ok (Registered p servers)
       → (q : ItrRequest) → IsFor w.state e.ticket q.xeid → IsAssignedBy r (xeid_path q.xeid) p servers from
-  ends_registered {from} {heard} {new} e fair by p servers is q own =
-      let o = (hold_moved g h now le).holds in
-      let l = was_pending (of_step o.order by.step).shape by.ends in
-      let both = (g.steps r s_ (Hear from heard) new by.reply g.accepted o.order o.sound fair by.step).1 in
-      let ends : progress_of by.reply ≡ Ends e.ticket (Ok (Registered p servers)) = rw is at by.ends in
-      let right : IsRightEnd r s_ e.ticket (Registered p servers) = right_end r s_ (Hear from heard) by.reply e.ticket (Ok (Registered p servers)) both ends in
-      let found = registered_by g s_ o.order from heard fair new by.reply by.step e.ticket p servers ends l.0 l.1 (right l.0 l.1) in
+  ends_registered {from} {heard} {new} e fair by_ p servers is q own =
+      let s = moved now w.state in
+      let o = (wait_moved h now le).waits.order in
+      let l = was_pending (of_step o by_.step).shape by_.ends in
+      let both = (g.steps r s (Hear from heard) new by_.reply g.accepted o (stands_moved g j now).sound fair by_.step).1 in
+      let ends : progress_of by_.reply ≡ Ends e.ticket (Ok (Registered p servers)) = rw is at by_.ends in
+      let right : IsRightEnd r s e.ticket (Registered p servers) = right_end r s (Hear from heard) by_.reply e.ticket (Ok (Registered p servers)) both ends in
+      let found = registered_by g s o from heard fair new by_.reply by_.step e.ticket p servers ends l.0 l.1 (right l.0 l.1) in
       let same : l.0.x ≡ q.xeid = own.same l.0 l.1 in
       rw same at found

@@ -16,7 +16,7 @@ use Rattle.ddt_resolver.specs.declared.step.Progress.{Progress}
 use Rattle.ddt_resolver.specs.declared.step.Progress.TheVariants.{Stays, Sends, Ends}
 use Rattle.ddt_resolver.specs.declared.step.Reply.{Reply}
 use Rattle.ddt_resolver.specs.declared.step.Reply.TheVariants.{ToAsk}
-use Rattle.ddt_resolver.specs.State.{State, numbered, request}
+use Rattle.ddt_resolver.specs.State.{State, numbered}
 use Rattle.ddt_resolver.specs.Step.{Ask, ResolverCall}
 use Rattle.ddt_resolver.specs.laws.NumberMap.{get-insert_same, found_insert, found_remove}
 use Rattle.ddt_resolver.specs.laws.Shape as moves

@@ -25,6 +25,11 @@ use Rattle.ddt_check.specs.Says.{says, says_from, next_zone, referral_to}
 use Rattle.ddt_check.specs.laws.Next.{assigned_here}
 use Rattle.ddt_check.specs.laws.Zone.{zone_prefix}
 
+-- what the register assigns to an identifier is registered, and this is one of the servers
+pub record IsAssignedBy (r : Register) (x p : List ℕ) (servers : List Locator) (by_ : Locator) : Type 0 where
+  pub registered : assignment r x ≡ Registered p servers
+  pub among_them : lists servers by_ ≡ true
+
 no_referral : (role : Role) → referral_action role ≡ MsAck → ⊥
 no_referral Node e = cc e
 no_referral Ms e = cc e

@@ -1,0 +1,3 @@
+pub mod SaidLemmas
+pub mod SinceLemmas
+pub mod RunLemmas

@@ -36,8 +36,8 @@ abbrev pub SaysOf : Xeid → List ℕ → List ℕ → Type 0
 SaysOf x bytes plain = (plain ≡ bytes) ⊎ Gives x bytes plain
 
 -- Of each request for x that was tried to a server before: a packet at the resolver's socket that comes from the
--- server's UDP port 4342, and spells of x a Map-Referral of the nonce, in any way that is read, says what the register
--- says there of x. In the one spelling this is `ArePacketsFair`.
+-- server's UDP port 4342, and spells a Map-Referral of the nonce for x, in any spelling that is read, says what the
+-- register says there of x. In the one spelling this is `ArePacketsFair`.
 abbrev pub AreRepliesFair : Register → Locator → List Call → Type 0
 AreRepliesFair r me calls =
     (earlier later : List Call) (room : ℕ) (p : Packet) (bytes plain : List ℕ) (nonce : ℕ) (rec : ReferralRecord)
@@ -65,8 +65,8 @@ finished begun_for kept (Some e) ends =
     record { ticket = e.ticket; end = e.end; requests = begun_for e ends ∷ requests_for e.ticket kept } ∷ []
 
 -- the lookup that a datagram has ended
-abbrev pub ended_by_reply : {me : Locator} {now : ℕ} {p : Packet} {bytes : List ℕ} {w : Resolving} {near far : List Call}
-    {new : Resolving} → HearsSpelled me now p bytes w near far new → List Finished
+abbrev pub ended_by_reply : {me : Locator} {now : ℕ} {p : Packet} {bytes : List ℕ} {w : Resolving}
+    {near far : List Call} {new : Resolving} → HearsSpelled me now p bytes w near far new → List Finished
 ended_by_reply {w = w} (rounds.whole cuts h) = finished (λ e by_. by_.ends.request) w.kept h.ended h.ends
 ended_by_reply {w = w} (rounds.cut heard cuts h) = finished (λ e by_. by_.ends.request) w.kept h.ended h.ends
 ended_by_reply (rounds.lost wide near far same) = []
@@ -129,8 +129,8 @@ pub record BeginsAtRest (r : Register) (me : Locator) (start : Resolving) : Type
   pub nobody : start.running.desk ≡ opening_desk []
   pub no_request : start.kept ≡ []
 
--- What holds of the lookups that have ended, and of the requests that went on, in each run of a Map-Resolver that begins
--- so, as do all that go on in its place, where the replies to what it asks are fair.
+-- What holds of the lookups that have ended, and of the requests that went on, in each run of a Map-Resolver that
+-- begins so, as do all that go on in its place, where the replies to what it asks are fair.
 abbrev pub WhereFair : (Register → Locator → List Finished → List Call → Type 0) → Type 0
 WhereFair holds =
     (r : Register) (me : Locator) (start : Resolving) (calls onward : List Call) (w : Resolving)

@@ -1,11 +1,12 @@
 -- How the lookups of a Map-Resolver end where registers replace each other meanwhile (RFC 8111, section 7.3).
-use Rattle.std.specs.Prelude.{ℕ, ◌≡◌, ◌+◌, ◌≤◌, nat_lt, if◌then◌else◌, IsTrue, List, [], ◌∷◌, All, Option, Some, None, Result, Ok, Err}
+use Rattle.std.specs.Prelude.{ℕ, ◌≡◌, ◌+◌, ◌<◌, ◌≤◌, nat_lt, if◌then◌else◌, IsTrue, List, [], ◌∷◌, All, Option, Some, None, Result, Ok, Err}
 use Rattle.std.specs.FinMap.{get}
 use Rattle.ddt_path.specs.declared.locator.Locator.{Locator}
 use Rattle.ddt_path.specs.declared.record.Outcome.{Outcome}
 use Rattle.ddt_path.specs.declared.record.Outcome.TheVariants.{Registered, NotRegistered, Hole}
 use Rattle.ddt_path.specs.declared.record.ReferralRecord.{ReferralRecord}
 use Rattle.ddt_path.specs.Covers.{covers}
+use Rattle.ddt_path.specs.Locators.{lists}
 use Rattle.ddt_path.specs.Path.{xeid_path}
 use Rattle.ddt_path.specs.Records.{record_of}
 use Rattle.ddt_register.specs.declared.register.Register.{Register}
@@ -25,7 +26,7 @@ use Rattle.ddt_loop.specs.Requesters.{opening_desk}
 use Rattle.ddt_loop.specs.Polls.{polled}
 use Rattle.ddt_loop.specs.Runs.{heard_of}
 use Rattle.ddt_daemon.specs.Rounds.{Resolving}
-use Rattle.ddt_daemon.specs.Runs.{HasServed, begins, round, tick, hastening, resending, forgetting, waiting, renewal}
+use Rattle.ddt_daemon.specs.Runs.{IsOnward, HasServed, begins, round, tick, hastening, resending, forgetting, waiting, renewal}
 use Rattle.ddt_daemon.specs.Spelled.{IsSpelledAs}
 use Rattle.ddt_laws.specs.PositiveEnds.{finished, ended_in_round}
 
@@ -126,6 +127,36 @@ EndsWereTrue in_force (forgetting p so_far) = EndsWereTrue in_force so_far
 EndsWereTrue in_force (waiting now so_far le) = EndsWereTrue in_force so_far
 EndsWereTrue in_force (renewal new so_far may later) = EndsWereTrue in_force so_far
 
+-- ---- the requests that go on
+
+-- A request of an ITR goes on, its bit D set, to one of the servers that a register assigned to its identifier, as
+-- registered, which was in force less than 2,000 milliseconds before.
+pub record WentToAssigned (in_force : ℕ → Register) (me : Locator) (time : ℕ) (call : Call) : Type 0 where
+  pub onward : IsOnward me call
+  pub moment : ℕ
+  pub before : moment ≤ time
+  pub of_late : time < moment + reply_timeout_ms
+  pub prefix : List ℕ
+  pub servers : List Locator
+  pub registered : assignment (in_force moment) (xeid_path onward.request.xeid) ≡ Registered prefix servers
+  pub among_them : IsTrue (lists servers onward.to)
+
+-- so it is with each that goes on in a run
+abbrev pub RequestsWereAssigned : (in_force : ℕ → Register) (me : Locator) {may_begin : State → Type 0}
+    {start : Resolving} {calls onward : List Call} {w : Resolving} → HasServed may_begin me start calls onward w
+    → Type 0
+RequestsWereAssigned in_force me begins = Unit {0}
+RequestsWereAssigned in_force me (round {w = w} settings now near far new so_far le is) =
+    RequestsWereAssigned in_force me so_far × All (WentToAssigned in_force me (time_at now w)) far
+RequestsWereAssigned in_force me (tick {w = w} now near far new so_far le is) =
+    RequestsWereAssigned in_force me so_far × All (WentToAssigned in_force me (time_at now w)) far
+RequestsWereAssigned in_force me (hastening {w = w} now nonce near far new so_far le is) =
+    RequestsWereAssigned in_force me so_far × All (WentToAssigned in_force me (time_at now w)) far
+RequestsWereAssigned in_force me (resending nonce near so_far is) = RequestsWereAssigned in_force me so_far
+RequestsWereAssigned in_force me (forgetting p so_far) = RequestsWereAssigned in_force me so_far
+RequestsWereAssigned in_force me (waiting now so_far le) = RequestsWereAssigned in_force me so_far
+RequestsWereAssigned in_force me (renewal new so_far may later) = RequestsWereAssigned in_force me so_far
+
 -- ---- the law
 
 -- a resolver in order, with nothing pending
@@ -140,9 +171,10 @@ pub record ServesNobody (start : Resolving) : Type 0 where
   pub no_request : start.kept ≡ []
 
 -- Accepted registers are in force, one at each moment, and replies say what one says that was in force between request
--- and reply. Then each lookup that ends with an outcome does so with one that was true at a moment since it began.
+-- and reply. Then each lookup that ends with an outcome does so with one that was true at a moment since it began, and
+-- each request that goes on goes to a server that was assigned of late.
 abbrev pub LookupsEndTruly : Type 0
 LookupsEndTruly =
     (in_force : ℕ → Register) (me : Locator) (start : Resolving) (calls onward : List Call) (w : Resolving)
     → ((at : ℕ) → IsAccepted (in_force at)) → ServesNobody start → (run : HasServed IsAtRest me start calls onward w)
-    → AreRepliesSince in_force me run → EndsWereTrue in_force run
+    → AreRepliesSince in_force me run → EndsWereTrue in_force run × RequestsWereAssigned in_force me run

@@ -26,7 +26,8 @@ pub fn lookups_end_as_assigned()
 
 /// The same where registers replace each other: if each reply says what a register says that was in force between
 /// request and reply, each lookup that ends with an outcome ends with one that was true at a moment since it began.
-/// A reply that reached beyond its zone, and was cut to it, is true of that zone.
+/// A reply that reached beyond its zone, and was cut to it, is true of that zone. Each request that goes on goes to a
+/// server that a register assigned which was in force less than 2,000 milliseconds before.
 pub fn lookups_end_truly()
     ensures { LookupsEndTruly }
 {

@@ -8,8 +8,10 @@ use Rattle.ddt_path.specs.declared.record.Outcome.{Outcome}
 use Rattle.ddt_path.specs.declared.record.Outcome.TheVariants.{Registered, NotRegistered, Hole}
 use Rattle.ddt_path.specs.Path.{xeid_path}
 use Rattle.ddt_register.specs.declared.register.Register.{Register}
+use Rattle.ddt_ecm.specs.UdpHeader.{control_port}
 use Rattle.ddt_sockets.specs.declared.wire_calls.Call.{Call}
 use Rattle.ddt_sockets.specs.declared.wire_calls.Call.TheVariants.{Received, Tried}
+use Rattle.ddt_sockets.specs.declared.wire_calls.NetFault.{NetFault}
 use Rattle.ddt_sockets.specs.Turns.{AreTried}
 use Rattle.ddt_resolver.specs.declared.itr_messages.ItrRequest.{ItrRequest}
 use Rattle.ddt_resolver.specs.declared.results.Why.{Why}
@@ -18,7 +20,7 @@ use Rattle.ddt_loop.specs.declared.packet_outcome.Ended.{Ended as End}
 use Rattle.ddt_loop.specs.Runs.{MayEndBy}
 use Rattle.ddt_daemon.specs.declared.itr_requests.WaitingRequest.{WaitingRequest}
 use Rattle.ddt_daemon.specs.Goes.{goes_on, Closes, starts, one, Follows}
-use Rattle.ddt_daemon.specs.Onward.{to_server}
+use Rattle.ddt_daemon.specs.Onward.{with_d, to_server}
 use Rattle.ddt_daemon.specs.Requests.{AsksFor}
 use Rattle.ddt_laws.specs.PositiveEnds.{Finished, requests_for, finished, GoesToAssigned}
 use Rattle.ddt_laws.proofs.PositiveEndsLemmas.ForLemmas.{IsFor, Carries}
@@ -108,6 +110,40 @@ module _ (me : Locator) (s : State) (Goes : Call → Type 0) where
   none_go e k is its [] tried = All-nil Goes
   none_go e k is its (call ∷ on) tried = absurd tried
 
+-- a call to a server by which the request that waits goes on
+abbrev pub onward_to : Locator → Locator → WaitingRequest → Result (Unit {0}) NetFault → Call
+onward_to me by_ k answer = Tried me by_ control_port (with_d k.bytes) answer
+
+module _ (me : Locator) (s : State) (Goes : Call → Type 0) where
+  none_onward : (far : List Call) → AreTried me [] far → All Goes far
+  none_onward [] tried = All-nil Goes
+  none_onward (call ∷ far) tried = absurd tried
+
+  one_onward : (by_ : Locator) (k : WaitingRequest) (far : List Call) → ((answer : Result (Unit {0}) NetFault) → Goes (onward_to me by_ k answer)) → AreTried me (to_server by_ k.bytes ∷ []) far → All Goes far
+  one_onward by_ k [] goes tried = absurd tried
+  one_onward by_ k (Received at room answer b ∷ far) goes tried = absurd tried.0
+  one_onward by_ k (Tried from to port b answer ∷ (c ∷ far)) goes tried = absurd tried.1
+  one_onward by_ k (Tried from to port b answer ∷ []) goes tried =
+      let is : Tried from to port b answer ≡ onward_to me by_ k answer = cc (tried.0.0, tried.0.1, tried.0.2, tried.0.3) in
+      All-cons Goes (Tried from to port b answer) [] (rw is (goes answer)) (All-nil Goes)
+
+  went_on : (b : Locator) (e : End) (end : Result Outcome Why) (k : WaitingRequest) (far : List Call) → e.end ≡ end
+      → ((p : List ℕ) (servers : List Locator) → e.end ≡ Ok (Registered p servers) → (answer : Result (Unit {0}) NetFault) → Goes (onward_to me b k answer))
+      → AreTried me (goes_on (Some b) end k.bytes) far → All Goes far
+  went_on b e (Ok (Registered p servers)) k far same goes tried = one_onward b k far (goes p servers same) tried
+  went_on b e (Ok (NotRegistered p servers)) k far same goes tried = none_onward far tried
+  went_on b e (Ok (Hole p)) k far same goes tried = none_onward far tried
+  went_on b e (Err why) k far same goes tried = none_onward far tried
+
+  -- a request goes on to a server only where its lookup has ended as registered
+  pub go_registered : (b : Locator) (e : End)
+      → ((p : List ℕ) (servers : List Locator) → e.end ≡ Ok (Registered p servers) → (k : WaitingRequest) → AsksFor k.bytes k.request → IsFor s e.ticket k.request.xeid
+      → (answer : Result (Unit {0}) NetFault) → Goes (onward_to me b k answer))
+      → AllGo me s Goes (Some b) e
+  go_registered b e goes k is its on tried =
+      let own : IsFor s e.ticket k.request.xeid = subst (λ (u : ℕ). IsFor s u k.request.xeid) its is.lookup in
+      went_on b e e.end k on refl (λ p servers same. goes p servers same k is.asks own) tried
+
 -- ---- to the servers that are assigned
 
 -- a lookup that a server's datagram has ended as registered is assigned so, and this is one of its servers
@@ -116,42 +152,20 @@ EndsAt r s server e =
     (p : List ℕ) (servers : List Locator) → e.end ≡ Ok (Registered p servers) → (q : ItrRequest) → IsFor s e.ticket q.xeid
     → IsAssignedBy r (xeid_path q.xeid) p servers server
 
-module _ {r : Register} {me : Locator} where
-  none_onward : (far : List Call) → AreTried me [] far → All (GoesToAssigned r me) far
-  none_onward [] tried = All-nil (GoesToAssigned r me)
-  none_onward (call ∷ far) tried = absurd tried
-
-  one_onward : (by_ : Locator) (k : WaitingRequest) (p : List ℕ) (servers : List Locator) (far : List Call) → AsksFor k.bytes k.request
-      → IsAssignedBy r (xeid_path k.request.xeid) p servers by_ → AreTried me (to_server by_ k.bytes ∷ []) far → All (GoesToAssigned r me) far
-  one_onward by_ k p servers [] asks_it is tried = absurd tried
-  one_onward by_ k p servers (Received at room answer b ∷ far) asks_it is tried = absurd tried.0
-  one_onward by_ k p servers (Tried from to port b answer ∷ (c ∷ far)) asks_it is tried = absurd tried.1
-  one_onward by_ k p servers (Tried from to port b answer ∷ []) asks_it is tried =
-      let it : GoesToAssigned r me (Tried from to port b answer) = record {
-        onward = record {
-          to = by_;
-          request = k.request;
-          bytes = k.bytes;
-          answer = answer;
-          asks = asks_it;
-          is = cc (tried.0.0, tried.0.1, tried.0.2, tried.0.3);
-        };
-        prefix = p;
-        servers = servers;
-        registered = is.registered;
-        among_them = is.among_them;
-      } in
-      All-cons (GoesToAssigned r me) (Tried from to port b answer) [] it (All-nil (GoesToAssigned r me))
-
-  -- one request goes on, or it doesn't
-  went_on : {s : State} (b : Locator) (e : End) (end : Result Outcome Why) (k : WaitingRequest) (far : List Call) → e.end ≡ end → IsKept s k → k.ticket ≡ e.ticket → EndsAt r s b e
-      → AreTried me (goes_on (Some b) end k.bytes) far → All (GoesToAssigned r me) far
-  went_on {s} b e (Ok (Registered p servers)) k far same is its at tried =
-      let own : IsFor s e.ticket k.request.xeid = subst (λ (u : ℕ). IsFor s u k.request.xeid) its is.lookup in
-      one_onward b k p servers far is.asks (at p servers same k.request own) tried
-  went_on b e (Ok (NotRegistered p servers)) k far same is its at tried = none_onward far tried
-  went_on b e (Ok (Hole p)) k far same is its at tried = none_onward far tried
-  went_on b e (Err why) k far same is its at tried = none_onward far tried
-
-  pub go_assigned : {s : State} (b : Locator) (e : End) → EndsAt r s b e → AllGo me s (GoesToAssigned r me) (Some b) e
-  go_assigned b e at k is its on tried = went_on b e e.end k on refl is its at tried
+pub go_assigned : {r : Register} {me : Locator} {s : State} (b : Locator) (e : End) → EndsAt r s b e → AllGo me s (GoesToAssigned r me) (Some b) e
+go_assigned {r} {me} {s} b e at = go_registered me s (GoesToAssigned r me) b e (λ p servers same k asks_it own answer.
+    let is = at p servers same k.request own in
+    record {
+      onward = record {
+        to = b;
+        request = k.request;
+        bytes = k.bytes;
+        answer = answer;
+        asks = asks_it;
+        is = refl;
+      };
+      prefix = p;
+      servers = servers;
+      registered = is.registered;
+      among_them = is.among_them;
+    })

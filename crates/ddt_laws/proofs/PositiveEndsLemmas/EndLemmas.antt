@@ -125,7 +125,7 @@ module _ {r : Register} (g : Grounds r) {me : Locator} {calls : List Call} {w : 
 
 -- ---- an end as registered
 
-acked : (a : Action) (p q : List ℕ) (own servers : List Locator) → outcome_at a p own ≡ Registered q servers → a ≡ MsAck
+pub acked : (a : Action) (p q : List ℕ) (own servers : List Locator) → outcome_at a p own ≡ Registered q servers → a ≡ MsAck
 acked NodeReferral p q own servers is = absurd (cc is)
 acked MsReferral p q own servers is = absurd (cc is)
 acked MsAck p q own servers is = refl

@@ -26,16 +26,14 @@ use Rattle.ddt_resolver.specs.Within.{IsWide}
 use Rattle.ddt_sim.specs.Sound.{IsFair, StepsKeepSoundness, HasteningKeepsSoundness, TimeKeepsSoundness, ForgettingKeepsSoundness}
 use Rattle.ddt_sim.specs.Inside.{HonestRepliesAreInside, StepsKeepStarts, HasteningKeepsStarts, ForgettingKeepsStarts}
 use Rattle.ddt_loop.specs.Requesters.{opening_desk}
-use Rattle.ddt_loop.specs.Acts.{Running, running}
+use Rattle.ddt_loop.specs.Acts.{running}
 use Rattle.ddt_loop.specs.Runs.{heard_of, BeginsSound}
-use Rattle.ddt_loop.specs.Polls.{polled}
-use Rattle.ddt_daemon.specs.Rounds.{Resolving, resolving, IsRound, IsTick, IsHastened}
+use Rattle.ddt_daemon.specs.Rounds.{Resolving}
 use Rattle.ddt_daemon.specs.Runs.{HasServed, begins, round, tick, hastening, resending, forgetting, waiting, renewal}
 use Rattle.ddt_daemon.specs.Spelled.{IsSpelledAs, short, unasked, untaken, taken}
-use Rattle.ddt_laws.specs.PositiveEnds.{SaysOf, AreRepliesFair, Finished, finished, ended_in_round, ends_of, EndsAsAssigned, GoesToAssigned, BeginsAtRest, EndsAreAssigned, RequestsGoToTheAssigned}
-use Rattle.ddt_laws.proofs.PositiveEndsLemmas.ForLemmas.{IsOwnOf}
-use Rattle.ddt_laws.proofs.PositiveEndsLemmas.WaitLemmas.{Waits, waits_first}
-use Rattle.ddt_laws.proofs.PositiveEndsLemmas.ChangeLemmas.{Change, IsAsk, change_in, change_hears, change_hastens}
+use Rattle.ddt_laws.specs.PositiveEnds.{SaysOf, AreRepliesFair, Finished, ended_in_round, ends_of, EndsAsAssigned, GoesToAssigned, BeginsAtRest, EndsAreAssigned, RequestsGoToTheAssigned}
+use Rattle.ddt_laws.proofs.PositiveEndsLemmas.WaitLemmas.{waits_first}
+use Rattle.ddt_laws.proofs.PositiveEndsLemmas.ChangeLemmas.{IsAsk, change_in, change_hears, change_hastens}
 use Rattle.ddt_laws.proofs.PositiveEndsLemmas.StandLemmas.{Grounds, Stands, stands_first, stands_more, stands_moved, stands_forgot, stands_on}
 use Rattle.ddt_laws.proofs.PositiveEndsLemmas.EndLemmas.{Assigned, ends_by, ends_by_haste, ends_registered}
 use Rattle.ddt_laws.proofs.PositiveEndsLemmas.CloseLemmas.{IsKept, finished_well, followed, none_go, go_assigned}

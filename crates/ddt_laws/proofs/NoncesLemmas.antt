@@ -2,6 +2,5 @@ pub mod RequestLemmas
 pub mod LiftLemmas
 pub mod FairLemmas
 pub mod OweLemmas
-pub mod ShapeLemmas
 pub mod OnceLemmas
 pub mod RunLemmas

@@ -41,7 +41,7 @@ use Rattle.ddt_loop.specs.Right.{is_poll}
 use Rattle.ddt_loop.specs.Runs.{HasRun, begins, took, ticked, hastened, shared, waited, forgot, resent, passed, renewed, BeginsSound}
 use Rattle.ddt_laws.specs.Nonces.Runs.{IsAskedOnce, RunsAskOnce}
 use Rattle.ddt_laws.proofs.NoncesLemmas.RequestLemmas.{first_of_request, request_spells, one_request, asked_in}
-use Rattle.ddt_laws.proofs.NoncesLemmas.ShapeLemmas.{Shape, stays, sends, drops, IsAct, of_step, of_haste}
+use Rattle.ddt_laws.proofs.ShapeLemmas.{Shape, stays, sends, drops, IsAct, of_step, of_haste}
 
 -- ---- what tries no request
 
@@ -269,8 +269,8 @@ asked_act {me} {calls} {s} {new} {a} d after tries h act goes = by act.shape
     by (stays p n q) =
         let g = rw q at goes in
         rw (g.0, append-nil) (asked_fewer me calls s new h act.order own (omega (arith, n)) (λ t l here. rw p at here))
-    by (sends t l p n f) = let g = rw f at goes in asked_sent me calls tries s new h act.order own t l p n g.0
-    by (drops t end p n f) =
+    by (sends t l from p n f) = let g = rw f at goes in asked_sent me calls tries s new h act.order own t l p n g.0
+    by (drops t l end here p n f) =
         let g = rw f at goes in
         let left = asked_fewer me calls s new h act.order own (omega (arith, n)) (λ u k here. (found_remove s.pending t u k (rw p at here)).1) in
         asked_quiet me calls tries new left (quiet_asker me end g.taken (record d { waiting = g.rest }) tries after g.told)

@@ -1,0 +1,9 @@
+pub mod SayLemmas
+pub mod ForLemmas
+pub mod WaitLemmas
+pub mod ChangeLemmas
+pub mod StandLemmas
+pub mod CloseLemmas
+pub mod EndLemmas
+pub mod RoundLemmas
+pub mod ServeLemmas

@@ -1,0 +1,4 @@
+pub mod SaidLemmas
+pub mod SinceLemmas
+pub mod GoLemmas
+pub mod RunLemmas

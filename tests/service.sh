@@ -496,6 +496,11 @@ seen() {
     pids[notified]=$!
     until [ -S "$folder/notify" ]; do sleep 0.05; done
     NOTIFY_SOCKET=$folder/notify resolve '"192.0.2.3"' 192.0.2.3
+    # It answers on its control socket before it has logged this.
+    for _ in {1..100}; do
+        grep -q 'allow covers' "$folder/resolver.log" && break
+        sleep 0.05
+    done
     expect 'seen: allow covers the root' 1 "$(grep -c 'allow covers a root: 192.0.2.3$' "$folder/resolver.log")"
     load itr east "east:20:$folder/east"
     load itr west "west:20:$folder/west"

@@ -38,5 +38,5 @@ returns g c =
     let a = c.args.arrival.now in
     let who = sender_of a.message.now.id a.from in
     let done : List RegisterRecord = so_far.0 in
-    let all = so_far.1 ∙ ap (λ (rs : List RegisterRecord). done ++ rs) c.in-None.ensures.steps.0 ∙ append-nil done in
+    let all = so_far.1 ∙ ap (λ (rs : List RegisterRecord). done ++ rs) c.in_default.ensures.steps.0 ∙ append-nil done in
     subst (λ (rs : List RegisterRecord). ArePrepared a.moment a.message.now who c.args.self.now 0 rs c.loop-record.changes.items) (sym all) so_far.2

@@ -1,24 +1,16 @@
 -- The turns of a server, one after the other, and the bit D.
 use Rattle.std.proofs.Common.{◌≡◌, ℕ, ◌+◌, ◌*◌, ◌/◌, ◌%◌, List, [], ◌∷◌, ◌++◌, get_or, set, length, refl, sym, ap, ◌∙◌, subst, arith}
-use Rattle.std.specs.Prelude.{Option, Some, Ok, Err, true, false, ◌==◌, ◌≢◌, slice_get}
+use Rattle.std.specs.Prelude.{Option, Some, Ok, Err, true, false, ◌==◌, ◌≢◌}
 use Rattle.std.proofs.Common.{eqb-true}
 use Rattle.std.proofs.lemmas.Bool.{false≢true}
 use Rattle.std.proofs.lemmas.List.{length_push, flat_map_more}
 use Rattle.std.proofs.lemmas.List.Elements.{All-nil, All-push}
-use Rattle.std.proofs.lemmas.Option.{none-some, same_Some}
-use Rattle.ddt_path.specs.declared.action.Action.{Action}
-use Rattle.ddt_path.specs.declared.action.Action.TheVariants.{NodeReferral, MsReferral, MsAck, MsNotRegistered, DelegationHole, NotAuthoritative}
 use Rattle.ddt_path.specs.declared.locator.Locator.{Locator}
-use Rattle.ddt_path.specs.declared.record.Outcome.{Outcome}
-use Rattle.ddt_path.specs.declared.record.ReferralRecord.{ReferralRecord}
 use Rattle.ddt_config.specs.Table.{Outline}
 use Rattle.ddt_node.specs.Server.{without_d}
 use Rattle.ddt_sockets.specs.declared.wire_calls.Call.{Call}
 use Rattle.ddt_sockets.specs.Calls.{RecordsCalls}
 use Rattle.ddt_sockets.specs.laws.Tell.{tells_both, tells_none}
-use Rattle.ddt_resolver.specs.Front.{reply_to_itr}
-use Rattle.ddt_resolver.specs.Records.{negative_answer}
-use Rattle.ddt_loop.specs.Acts.{sent_if}
 use Rattle.ddt_config.specs.declared.settings.server_settings.ServerSettings.{ServerSettings}
 use Rattle.ddt_foreign.specs.declared.fault.ForeignRequestFault.{ForeignRequestFault}
 use Rattle.ddt_foreign.specs.Request.{Asked, request_in}
@@ -27,7 +19,7 @@ use Rattle.ddt_sockets.specs.declared.wire_calls.Packet.{Packet}
 use Rattle.ddt_sockets.specs.Turns.{Outgoing, most_bytes, AreTried}
 use Rattle.ddt_daemon.specs.declared.service.Service.{Service}
 use Rattle.ddt_daemon.specs.declared.service.Service.TheVariants.{NoRequest, UnrecognizedAfi, Probe, Denied, Client, Itr}
-use Rattle.ddt_daemon.specs.ServerTurns.{service_for, reply_for, onward_for, negative_to, of_itr, IsTurn, served, out_of_memory, AreTurns}
+use Rattle.ddt_daemon.specs.ServerTurns.{service_for, reply_for, onward_for, IsTurn, served, out_of_memory, AreTurns}
 
 -- so many turns so far
 pub record HasTurned (before now : Option (List Call)) (c : Outline) (settings : ServerSettings) (at : Locator) (count : ℕ) : Type 0 where
@@ -80,28 +72,6 @@ pub lost_as : (c : Outline) (settings : ServerSettings) (at : Locator) (p : Pack
     → service_for c.role settings p.from v ≡ s → reply_for c p v s ++ onward_for c bytes v s ≢ []
     → IsTurn c settings at (Received at most_bytes (Ok (Some p)) bytes ∷ [])
 lost_as c settings at p bytes v s read is some = out_of_memory p bytes (rw (read, is) some)
-
--- where there is something in one of two lists, there is in both together
-pub front_some : (xs ys : List Outgoing) → xs ≢ [] → xs ++ ys ≢ []
-front_some [] ys some = absurd (some refl)
-front_some (x ∷ xs) ys some = λ none. cc
-
-pub back_some : (xs ys : List Outgoing) → ys ≢ [] → xs ++ ys ≢ []
-back_some [] ys some = some
-back_some (x ∷ xs) ys some = λ none. cc
-
--- to an ITR that is told a negative answer something is sent
-pub negative_some : (v : Asked) (rec : ReferralRecord) (o : Outcome) (l : Locator) → v.reply ≡ true → negative_answer rec.action rec.prefix rec.servers ≡ Some o
-    → slice_get v.rlocs 0 ≡ Some l → negative_to v rec ≢ []
-negative_some v rec o l wants answers first = rw (wants, answers, first) (told rec.action answers)
-  where
-    told : (action : Action) → negative_answer action rec.prefix rec.servers ≡ Some o → sent_if (reply_to_itr o (of_itr v l)) ≢ []
-    told MsNotRegistered is = rw sym (same_Some _ _ is) (λ none. cc)
-    told DelegationHole is = rw sym (same_Some _ _ is) (λ none. cc)
-    told NodeReferral is = absurd (none-some _ is)
-    told MsReferral is = absurd (none-some _ is)
-    told MsAck is = absurd (none-some _ is)
-    told NotAuthoritative is = absurd (none-some _ is)
 
 -- of a request that is dropped nothing is sent
 pub nothing_for : (c : Outline) (at : Locator) (p : Packet) (bytes : List ℕ) (v : Asked) (s : Service) → (s ≡ Client → ⊥) → (s ≡ Itr → ⊥)

@@ -1,4 +1,4 @@
-use Rattle.std.proofs.Common.{[], ap, sym, ◌∙◌}
+use Rattle.std.proofs.Common.{[], sym, ◌∙◌}
 use Rattle.ddt_sockets.specs.laws.Tell.{tells_none}
 use Rattle.ddt_daemon.specs.declared.service.Service.TheVariants.{Client, Itr}
 use Rattle.ddt_daemon.proofs.TurnLemmas.{served_as, lost_as, nothing_for, tried_as}

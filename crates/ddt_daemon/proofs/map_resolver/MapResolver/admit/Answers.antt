@@ -1,6 +1,6 @@
 use Rattle.std.proofs.Common.{refl, sym, ◌∙◌}
 use Rattle.ddt_daemon.specs.Resolving.{resolving, at_moment}
-use Rattle.ddt_daemon.proofs.PlaceLemmas.{admitted_at_once, admitted_is, may_wait, refused_is, refused_wait}
+use Rattle.ddt_daemon.proofs.PlaceLemmas.{admitted_is, may_wait, refused_is, refused_wait}
 use Rattle.ddt_daemon.proofs.map_resolver.MapResolver.admit.Goals as goal
 
 pub returns-in-Err-clause-dropped : goal.returns-in-Err-clause-dropped

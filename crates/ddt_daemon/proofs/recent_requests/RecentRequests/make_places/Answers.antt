@@ -1,4 +1,4 @@
-use Rattle.std.proofs.Common.{length, arith}
+use Rattle.std.proofs.Common.{arith}
 use Rattle.ddt_daemon.specs.Recent.{most_recent}
 use Rattle.ddt_daemon.proofs.RecentLemmas.{made}
 use Rattle.ddt_daemon.proofs.recent_requests.RecentRequests.make_places.Goals as goal

@@ -1,6 +1,7 @@
-use Rattle.std.proofs.Common.{[], refl}
+use Rattle.std.proofs.Common.{[], refl, sym, ◌∙◌}
 use Rattle.ddt_sockets.specs.laws.Tell.{tells_none}
 use Rattle.ddt_daemon.specs.Rounds.{whole, cut, lost}
+use Rattle.ddt_daemon.proofs.HandleLemmas.{plain_cut}
 use Rattle.ddt_daemon.proofs.map_resolver.MapResolver.hear_spelled.Goals as goal
 
 pub returns-in-Ok-None : goal.returns-in-Ok-None

@@ -3,11 +3,17 @@
 //!
 //! `.ci/memory` runs each of these tests with each growth refused in turn.
 
-use crate::comparison::{holds, same};
+use crate::comparison::{given, holds, same, twice};
 use crate::daemon::registrations::refused::message;
-use crate::daemon::registrations::registrar::map_server::{EAST, MapServer, SOURCE};
+use crate::daemon::registrations::registrar::map_server::{EAST, MapServer, SOURCE, east};
+use ddt_examples::bytes_of;
 use ddt_examples::map_registers::{IPV4_NOTIFY, IPV4_REGISTER};
-use ddt_registrar::Refusal;
+use ddt_foreign::Ranked;
+use ddt_map_register::{MapRegister, read_register};
+use ddt_registrar::{
+    Clock, KeyedSite, NotRestored, ReceivedRegister, Refusal, Sender, push_etrs, push_sender,
+    push_site, restore_sites,
+};
 use std::alloc::Global;
 use std::process::Abort;
 use std::test::Fail;
@@ -78,4 +84,99 @@ fn a_registration_ends_or_all_stays(rt: HostRuntime) -> Result<(), Fail> {
     at.has_etrs(&rt, EAST, &[]);
     same(&rt, &at.counts(0), &Some((0, 1, true)), &"none");
     Ok(())
+}
+
+// ---- a site, and its lines in the file of registrations
+
+const CLOCK: Clock = Clock {
+    moment: 0,
+    wall: 1_000_000,
+};
+
+/// The file after the worked Map-Register, by hand: it lasts three minutes, and the digest is of Key ID, Algorithm ID,
+/// 1 and the secret.
+const FILE: &str = "ddtd registrations 1
+site [0]10.1.2.0/24 registered
+xtr 0102030405060708090a0b0c0d0e0f10/0000000000000007 1 2 5eeac67484ca694ad91dd10e4b8a339a 1180000 127.0.2.1/1
+nonce 1 2 0000000000000001 0102030405060708090a0b0c0d0e0f10/0000000000000007
+end
+";
+
+/// It has so many registrations and last nonces.
+fn has(rt: &impl Abort, site: &KeyedSite, count: usize) {
+    let counts = (site.live.len(), site.nonces.len(), site.has_registered);
+    same(rt, &counts, &(count, count, count > 0), &"the site");
+}
+
+/// The site is changed by the first record of a message, or stays as it is.
+fn changes(
+    rt: &impl Abort,
+    alloc: Global,
+    site: &mut KeyedSite,
+    message: &MapRegister<'_>,
+) -> Option<()> {
+    let record = message.records().next()?;
+    let arrival = ReceivedRegister {
+        message,
+        from: SOURCE,
+        moment: 0,
+    };
+    let changed = arrival.change(alloc, site, &record);
+    has(rt, site, usize::from(changed.is_ok()));
+    changed.ok()
+}
+
+/// The site for which the worked Map-Register was taken.
+fn registered(rt: &impl Abort, alloc: Global) -> Option<KeyedSite> {
+    let bytes = bytes_of(alloc, IPV4_REGISTER).ok()?;
+    let message = read_register(&bytes).ok()?;
+    let mut site = east(alloc)?;
+    if changes(rt, alloc, &mut site, &message).is_none() {
+        changes(rt, alloc, &mut site, &message)?;
+    }
+    Some(site)
+}
+
+fn saves(rt: &impl Abort, alloc: Global) -> Option<()> {
+    let site = registered(rt, alloc)?;
+    let mut text = Vec::new(alloc);
+    push_site(&mut text, &site, CLOCK).ok()?;
+    holds(rt, FILE.as_bytes().ends_with(&text), &"the lines");
+    same(rt, &text.len(), &(FILE.len() - 21), &"the length");
+    text.clear();
+    push_sender(&mut text, Sender::At(SOURCE)).ok()?;
+    let etr = Ranked {
+        priority: 1,
+        address: SOURCE,
+    };
+    push_etrs(&mut text, &[etr]).ok()?;
+    same(
+        rt,
+        &text.as_slice(),
+        &b"127.0.2.1 127.0.2.1/1".as_slice(),
+        &"the ETR",
+    );
+    Some(())
+}
+
+fn restores(rt: &impl Abort, alloc: Global) -> Option<()> {
+    let mut sites = Vec::new(alloc);
+    sites.push(east(alloc)?).ok()?;
+    let restored = restore_sites(alloc, FILE.as_bytes(), sites.as_mut_slice(), CLOCK);
+    let unread = given(rt, restored, &NotRestored::Memory)?;
+    same(rt, &unread, &0, &"the lines that were not read");
+    for site in &sites {
+        has(rt, site, 1);
+    }
+    Some(())
+}
+
+#[test]
+fn a_site_is_saved_whole(rt: HostRuntime) -> Result<(), Fail> {
+    twice(|| saves(&rt, rt.alloc()))
+}
+
+#[test]
+fn a_site_is_restored_whole(rt: HostRuntime) -> Result<(), Fail> {
+    twice(|| restores(&rt, rt.alloc()))
 }

@@ -1,8 +1,8 @@
 """The ledger attacks/LEDGER: what the prover said of each edit, and of which texts.
 
 A line is CRATE NAME VERDICT OWN BELOW. VERDICT is `goal` where a goal refused the edit, `other` where a type, a name or
-a limit did, or `passed` where nothing did. OWN and BELOW are the first 16 hexadecimal digits of an SHA-256, each of the
-texts from which that verdict follows.
+a limit did, `proves` where nothing did and the edit names a test that finds it, or `passed` where it names none. OWN
+and BELOW are the first 16 hexadecimal digits of an SHA-256, each of the texts from which that verdict follows.
 
 A proof of a function stands on its own body and on the contracts of what it calls. So the texts are the edit, the
 functions or else the files that it changes, and the contracts and definitions that these name, or that one of them

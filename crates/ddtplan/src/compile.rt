@@ -91,17 +91,17 @@ fn register_in(
     path: &str,
     folder: &mut DiskFolder<'_>,
 ) -> Result<Option<Register>, Failure> {
-    let name = FileName::Register;
-    match folder.read(rt.alloc(), name) {
-        Ok(Some(bytes)) => match read_register(rt.alloc(), bytes.as_slice()) {
-            Ok(register) => Ok(Some(register)),
-            Err(fault) => {
-                let path = shown_path(rt, path, name).map_err(no_memory)?;
-                Err(format!(in rt.alloc(); "{path}: unreadable {fault}"))
-            }
-        },
-        Ok(None) => Ok(None),
-        Err(fault) => Err(failed(rt, path, name, fault)),
+    let bytes = match folder.read(rt.alloc(), FileName::Register) {
+        Ok(Some(bytes)) => bytes,
+        Ok(None) => return Ok(None),
+        Err(fault) => return Err(failed(rt, path, FileName::Register, fault)),
+    };
+    match read_register(rt.alloc(), bytes.as_slice()) {
+        Ok(register) => Ok(Some(register)),
+        Err(fault) => {
+            let path = shown_path(rt, path, FileName::Register).map_err(no_memory)?;
+            Err(format!(in rt.alloc(); "{path}: unreadable {fault}"))
+        }
     }
 }
 

@@ -7,7 +7,8 @@
 
    REFUSE_OF says what a run may end in. Of a `test`: success; where memory stays away (`after`, `random`) an error that
    it returns too. Of a `command`: the status, output and error stream that it has with ample memory; or status 1,
-   nothing on the output and the line `out of memory`. Of a `loop` also status 1, and behind identifiers `unresolved`,
+   nothing on the output and the line `out of memory`. Of a `companion` that status is 2, and the line may begin with
+   `error: `, or with a word of the command line and `: `. Of a `loop` also status 1, and behind identifiers `unresolved`,
    where what memory ran out for was lost and the turns were used, or `refused Memory`, where no lookup began.
 
    Prints a line with the number of growths that were refused, and tells runs that end otherwise. The status is 1 if one
@@ -42,6 +43,8 @@ struct end {
 enum way { NEVER, EACH, AFTER, RANDOM };
 
 static struct counts *counts;
+static char **words;
+static int word_count, is_companion;
 static enum way way = NEVER;
 static long number;
 static unsigned long long dice;
@@ -125,10 +128,23 @@ static int same_end(const struct end *one, const struct end *other) {
            && !memcmp(one->err, other->err, (size_t)one->err_length);
 }
 
+/* Whether the line `out of memory` may begin so. */
+static int may_begin(const char *text, size_t length) {
+    if (length == 0) return 1;
+    if (!is_companion || length < 2 || memcmp(text + length - 2, ": ", 2)) return 0;
+    for (int n = 0; n < word_count; n++) {
+        const char *word = n ? words[n] : "error";
+        if (strlen(word) == length - 2 && !memcmp(text, word, length - 2)) return 1;
+    }
+    return 0;
+}
+
 /* Whether a command has told that memory ran out, and nothing else. */
 static int tells_want(const struct end *end) {
-    return WIFEXITED(end->status) && WEXITSTATUS(end->status) == 1 && end->out_length == 0
-           && end->err_length == (ssize_t)strlen(NO_MEMORY) && !memcmp(end->err, NO_MEMORY, strlen(NO_MEMORY));
+    const ssize_t begins = end->err_length - (ssize_t)strlen(NO_MEMORY);
+    return WIFEXITED(end->status) && WEXITSTATUS(end->status) == (is_companion ? 2 : 1) && end->out_length == 0
+           && begins >= 0 && !memcmp(end->err + begins, NO_MEMORY, strlen(NO_MEMORY))
+           && may_begin(end->err, (size_t)begins);
 }
 
 /* The length of a line, its line feed with it. */
@@ -173,12 +189,15 @@ static void tell(const struct end *end, const char *how, long run_number) {
     fflush(stdout);
 }
 
-__attribute__((constructor)) static void each_run(void) {
+__attribute__((constructor)) static void each_run(int main_count, char **main_words) {
     static struct end ample, end;
     const char *how = getenv("REFUSE"), *of = getenv("REFUSE_OF");
     if (!how || !of) return;
     enum way refused = !strcmp(how, "each") ? EACH : !strcmp(how, "after") ? AFTER : RANDOM;
     int is_test = !strcmp(of, "test"), is_loop = !strcmp(of, "loop");
+    is_companion = !strcmp(of, "companion");
+    word_count = main_count;
+    words = main_words;
     counts = mmap(NULL, sizeof *counts, PROT_READ | PROT_WRITE, MAP_SHARED | MAP_ANONYMOUS, -1, 0);
     if (counts == MAP_FAILED) fail("mmap");
     unsetenv("LD_PRELOAD");

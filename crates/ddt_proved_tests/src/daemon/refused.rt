@@ -49,17 +49,6 @@ fn resolver(alloc: Global) -> Option<Resolver<ListMap<Entry>>> {
     }
 }
 
-/// A Map-Resolver with it.
-fn world(alloc: Global) -> Option<World> {
-    let settings = from_toml(alloc, SETTINGS).ok()?;
-    Some(World {
-        resolver: MapResolver::new(alloc, resolver(alloc)?).ok()?,
-        settings,
-        near: WiresInMemory::new(alloc, 0),
-        far: WiresInMemory::new(alloc, 0),
-    })
-}
-
 /// A datagram for the Map-Resolver.
 fn datagram(alloc: Global, from: Locator, port: u16, fields: &str) -> Option<WaitingDatagram> {
     Some(WaitingDatagram {
@@ -71,6 +60,17 @@ fn datagram(alloc: Global, from: Locator, port: u16, fields: &str) -> Option<Wai
 }
 
 impl World {
+    /// A Map-Resolver with an empty cache.
+    fn new(alloc: Global) -> Option<World> {
+        let settings = from_toml(alloc, SETTINGS).ok()?;
+        Some(World {
+            resolver: MapResolver::new(alloc, resolver(alloc)?).ok()?,
+            settings,
+            near: WiresInMemory::new(alloc, 0),
+            far: WiresInMemory::new(alloc, 0),
+        })
+    }
+
     /// Delivers a message from an address and a port.
     fn deliver(&mut self, alloc: Global, from: Locator, port: u16, fields: &str) -> Option<()> {
         self.near.add(datagram(alloc, from, port, fields)?).ok()
@@ -110,7 +110,11 @@ impl World {
 
 /// The world, made once more where memory is refused.
 fn a_world(alloc: Global) -> Result<World, Fail> {
-    Ok(world(alloc).or_else(|| world(alloc)).ok_or("no memory")?)
+    Ok(
+        World::new(alloc)
+            .or_else(|| World::new(alloc))
+            .ok_or("no memory")?,
+    )
 }
 
 /// Of two requests and two replies one may be lost: the lookup ends, and the ITR no longer waits.
@@ -139,7 +143,7 @@ fn renews(rt: &impl Abort, alloc: Global, at: &mut World) -> Option<()> {
 }
 
 fn renews_at_last(rt: &impl Abort, alloc: Global) -> Option<()> {
-    let mut at = world(alloc)?;
+    let mut at = World::new(alloc)?;
     at.take(alloc, ITR, ITR_PORT, ITR_REQUEST)?;
     if at.resolver.waiting() == 0 {
         return None;

@@ -102,7 +102,7 @@ fn sets(rt: &impl Abort, alloc: Global, folder: &mut FolderInMemory) -> Option<(
 
 /// The register changes, and four files are new.
 const LINES: &str =
-    "changed register.csv\nnew east.toml\nnew root.toml\nnew ten.toml\nnew manifest\nsame 0\n";
+    "changed register.csv\nnew east.toml\nnew root.toml\nnew ten.toml\nnew MANIFEST\nsame 0\n";
 
 fn plans(rt: &impl Abort, alloc: Global) -> Option<()> {
     let mut folder = FolderInMemory::new(alloc);

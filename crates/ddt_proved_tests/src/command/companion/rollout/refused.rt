@@ -138,7 +138,7 @@ fn exports(rt: &impl Abort, alloc: Global) -> Option<()> {
         .text
         .as_slice()
         .starts_with(b"# openoverlayrouter 1.3.0 (OOR): a Map-Server of");
-    same(rt, &(mode, file.is_complete), &(true, false), &"east");
+    same(rt, &(mode, file.is_complete), &(true, true), &"east");
     Some(())
 }
 

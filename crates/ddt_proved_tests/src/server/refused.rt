@@ -371,11 +371,8 @@ fn notes(rt: &impl Abort, queue: &mut Outstanding) -> Option<()> {
 
 fn keeps(rt: &impl Abort, alloc: Global) -> Option<()> {
     let x = identifier(Locator::V4(TEN_ONE));
-    has_places(
-        rt,
-        alloc,
-        &[Prefix::cut(x, 41), Prefix::host(x), Prefix::cut(x, 41)],
-    )?;
+    let ten = Prefix::block(0, Locator::V4(0x0a00_0000), 8).ok()?;
+    has_places(rt, alloc, &[ten, Prefix::host(x), ten])?;
     let mut wires = PolledWires::new(alloc);
     wires.watch(0).ok()?;
     let mut queue = Outstanding::new(alloc);

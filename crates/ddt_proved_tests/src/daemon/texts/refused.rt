@@ -13,7 +13,7 @@ use ddt_daemon_text::{
     settings_lines, settings_of, table_of, unknown_in_list, warnings_of,
 };
 use ddt_examples::configurations::EAST;
-use ddt_path::{Locator, Prefix, Xeid};
+use ddt_path::{Locator, Prefix};
 use ddt_registrar::NotAdded;
 use std::alloc::Global;
 use std::process::Abort;
@@ -58,11 +58,8 @@ fn writes(rt: &impl Abort, alloc: Global) -> Option<()> {
 fn formats(rt: &impl Abort, alloc: Global) -> Option<()> {
     let json = formatted(alloc, "num.received=5\n", StatisticsFormat::Json).ok()?;
     is(rt, &json, "{\"num.received\":5}\n");
-    let site = Xeid {
-        iid: 0,
-        address: Locator::V4(0x0a01_0200),
-    };
-    let text = not_added_text(alloc, Prefix::cut(site, 57), NotAdded::Full).ok()?;
+    let site = Prefix::block(0, Locator::V4(0x0a01_0200), 24).ok()?;
+    let text = not_added_text(alloc, site, NotAdded::Full).ok()?;
     is(rt, &text, "[0]10.1.2.0/24 is one site with keys too many");
     Some(())
 }

@@ -25,11 +25,16 @@ const ME: Locator = Locator::V4(0x7f00_0035);
 
 type ListResolver = Resolver<ListMap<Entry>>;
 
+/// The EID-prefix 10.0.0.0/8.
+fn ten() -> Option<Prefix> {
+    Prefix::block(0, Locator::V4(0x0a00_0000), 8).ok()
+}
+
 /// The referral of 10.0.0.0/8 to its server.
 fn to_ten() -> Option<ReferralRecord> {
     Some(ReferralRecord {
         action: Action::NodeReferral,
-        prefix: Prefix::cut(X, 41),
+        prefix: ten()?,
         ttl: 1440,
         incomplete: false,
         servers: LocatorSet::of(&[TEN])?,
@@ -40,7 +45,7 @@ fn to_ten() -> Option<ReferralRecord> {
 fn is_ten(rt: &impl Abort, rows: &[(Prefix, Entry)]) {
     same(rt, &rows.len(), &1, &"the rows");
     for (prefix, entry) in rows {
-        same(rt, prefix, &Prefix::cut(X, 41), &"the prefix");
+        same(rt, &Some(*prefix), &ten(), &"the prefix");
         same(
             rt,
             &entry.servers.as_slice(),

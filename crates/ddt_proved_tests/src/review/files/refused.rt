@@ -7,7 +7,7 @@ use crate::comparison::{given, same, twice};
 use crate::registers::accepted;
 use ddt_check::Accepted;
 use ddt_examples::registers::CAMPUS;
-use ddt_path::{Locator, Prefix, Xeid};
+use ddt_path::{Locator, Prefix};
 use ddt_register::{ReadFault, read_register};
 use ddt_review::files::{OldFile, all_faults, faults_beside, warning_lines};
 use ddt_review::sheets::{FaultLine, fault_lines_text};
@@ -25,11 +25,6 @@ node,*,root,
 node,[0]10.0.0.0/8,ten,
 site,[0]10.1.2.0/24,,127.0.2.1
 ";
-
-const IN_SITE: Xeid = Xeid {
-    iid: 0,
-    address: Locator::V4(0x0a01_0203),
-};
 
 /// The one fault, as it is printed of a file alone.
 const TOLD: &str =
@@ -68,7 +63,7 @@ fn lacks(rt: &impl Abort, alloc: Global, before: &Accepted) -> Option<()> {
     same(
         rt,
         &zones.next(),
-        &Some(Prefix::cut(IN_SITE, 49)),
+        &Prefix::block(0, Locator::V4(0x0a01_0000), 16).ok(),
         &"the zone",
     );
     same(rt, &zones.next(), &None, &"the zones");

@@ -133,11 +133,18 @@ fn asking(rt: &impl Abort, alloc: Global) -> Option<ListResolver> {
     Some(resolver)
 }
 
-/// The server is asked once more under nonce 3, or the lookup stays.
+/// The server is asked once more under nonce 3.
+fn asks_again(rt: &impl Abort, ticked: &Ticked) -> Option<()> {
+    match ticked {
+        Ticked::Sent(_ticket, sent) => goes_to(rt, sent, TEN, 3),
+        _ => None,
+    }
+}
+
+/// It is asked once more, or the lookup stays.
 fn hastens(rt: &impl Abort, resolver: &mut ListResolver) -> Option<()> {
     match resolver.hasten(Moment::at(2)?, 2) {
-        Ok(Ticked::Sent(_ticket, sent)) => goes_to(rt, &sent, TEN, 3),
-        Ok(_other) => None,
+        Ok(ticked) => asks_again(rt, &ticked),
         Err(_refused) => {
             same(rt, &resolver.pending(), &1, &"the lookups");
             None

@@ -38,7 +38,7 @@ fn a_cache_is_purged(rt: HostRuntime) -> Result<(), Fail> {
     let roots = LocatorSet::of(&[Locator::V4(0x7f00_0001)]).ok_or("no roots")?;
     let mut cache: Cache<ListMap<Entry>> = Cache::new(rt.alloc(), roots);
     let now = Moment::at(60_000).ok_or("no moment")?;
-    cache.purge(now);
+    same(&rt, &cache.purge(now), &0, &"the entries");
     same(&rt, &cache.time().millis(), &60_000, &"the time");
     Ok(())
 }

@@ -8,8 +8,9 @@
    REFUSE_OF says what a run may end in. Of a `test`: success; where memory stays away (`after`, `random`) an error that
    it returns too. Of a `command`: the status, output and error stream that it has with ample memory; or status 1,
    nothing on the output and the line `out of memory`. Of a `companion` that status is 2, and the line may begin with
-   `error: `, with `<3>`, or with a word of the command line and `: `, after which may be a fault, as `5 Memory: `. Of a `loop` also status 1, and behind identifiers `unresolved`,
-   where what memory ran out for was lost and the turns were used, or `refused Memory`, where no lookup began.
+   `error: `, with `<3>`, or with a word of the command line and `: `, after which may be a fault, as `5 Memory: `. Of a
+   `loop` also status 1, and behind identifiers `unresolved`, where what memory ran out for was lost and the turns were
+   used, or `refused Memory`, where no lookup began.
 
    Prints a line with the number of growths that were refused, and tells runs that end otherwise. The status is 1 if one
    does or nothing could be refused, 2 if the program can't be run so. */

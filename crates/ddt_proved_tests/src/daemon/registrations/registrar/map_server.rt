@@ -147,6 +147,11 @@ pub fn prefix(rt: &impl Abort, text: &str) -> Prefix {
     parse_prefix(text.as_bytes()).expect(rt, "no prefix")
 }
 
+/// The site EAST, for which nothing is registered yet.
+pub fn east(alloc: Global) -> Option<KeyedSite> {
+    site(alloc, &SITES[0], false, AS_BEFORE)
+}
+
 /// A site for which nothing is registered yet; that of EAST has these keys.
 fn site(alloc: Global, row: &SiteRow, falls_back: bool, of_east: Keys) -> Option<KeyedSite> {
     let (text, configured, rows) = *row;

@@ -88,7 +88,7 @@ fn registered(rt: &impl Abort, alloc: Global) -> Option<HashedServer> {
         server,
         ..
     } = at;
-    MapServer::new(alloc, server, registrar).ok()
+    Some(MapServer::new(alloc, server, registrar))
 }
 
 /// A registrar with the same keys and without registrations.

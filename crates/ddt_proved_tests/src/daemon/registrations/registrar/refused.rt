@@ -6,6 +6,7 @@
 use crate::comparison::{given, holds, same, twice};
 use crate::daemon::registrations::refused::message;
 use crate::daemon::registrations::registrar::map_server::{EAST, MapServer, SOURCE, east};
+use ddt_examples::bytes_of;
 use ddt_examples::map_registers::{IPV4_NOTIFY, IPV4_REGISTER, TWO_RECORDS_REGISTER};
 use ddt_foreign::Ranked;
 use ddt_path::Locator;
@@ -121,7 +122,7 @@ fn has(rt: &impl Abort, site: &KeyedSite, count: usize) {
 
 /// The Map-Server that has taken the worked Map-Register.
 fn registered(rt: &impl Abort, alloc: Global) -> Option<MapServer> {
-    let register = message(alloc, IPV4_REGISTER).ok()?;
+    let register = bytes_of(alloc, IPV4_REGISTER).ok()?;
     let mut at = MapServer::build(alloc, false)?;
     takes(alloc, rt, &mut at, register.as_slice()).ok()?;
     Some(at)

@@ -8,12 +8,14 @@
    REFUSE_OF says what a run may end in. Of a `test`: success; where memory stays away (`after`, `random`) an error that
    it returns too. Of a `command`: the status, output and error stream that it has with ample memory; or status 1,
    nothing on the output and the line `out of memory`. Of a `companion` that status is 2, and the line may begin with
-   `error: `, or with a word of the command line and `: `. Of a `loop` also status 1, and behind identifiers `unresolved`,
-   where what memory ran out for was lost and the turns were used, or `refused Memory`, where no lookup began.
+   `error: `, with `<3>`, or with a word of the command line and `: `, after which may be a fault, as `5 Memory: `. Of a
+   `loop` also status 1, and behind identifiers `unresolved`, where what memory ran out for was lost and the turns were
+   used, or `refused Memory`, where no lookup began.
 
    Prints a line with the number of growths that were refused, and tells runs that end otherwise. The status is 1 if one
    does or nothing could be refused, 2 if the program can't be run so. */
 #define _GNU_SOURCE
+#include <ctype.h>
 #include <dlfcn.h>
 #include <errno.h>
 #include <stdio.h>
@@ -128,13 +130,26 @@ static int same_end(const struct end *one, const struct end *other) {
            && !memcmp(one->err, other->err, (size_t)one->err_length);
 }
 
+/* Whether this is nothing, or a fault: its number, its name and `: `. */
+static int is_fault(const char *text, size_t length) {
+    if (length == 0) return 1;
+    if (length < 6 || text[0] < '1' || text[0] > '9' || text[1] != ' ' || memcmp(text + length - 2, ": ", 2)) return 0;
+    for (size_t n = 2; n < length - 2; n++)
+        if (!isalpha((unsigned char)text[n])) return 0;
+    return 1;
+}
+
 /* Whether the line `out of memory` may begin so. */
 static int may_begin(const char *text, size_t length) {
     if (length == 0) return 1;
-    if (!is_companion || length < 2 || memcmp(text + length - 2, ": ", 2)) return 0;
+    if (!is_companion) return 0;
+    if (length == 3 && !memcmp(text, "<3>", 3)) return 1;
     for (int n = 0; n < word_count; n++) {
         const char *word = n ? words[n] : "error";
-        if (strlen(word) == length - 2 && !memcmp(text, word, length - 2)) return 1;
+        size_t end = strlen(word) + 2;
+        if (end <= length && !memcmp(text, word, end - 2) && !memcmp(text + end - 2, ": ", 2)
+            && is_fault(text + end, length - end))
+            return 1;
     }
     return 0;
 }

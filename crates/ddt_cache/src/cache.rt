@@ -119,12 +119,16 @@ impl<M: PrefixMap<Entry>> Cache<M> {
         self.time = self.time.max(now.millis());
     }
 
-    /// Moves the time to `now` if `now` is later, and removes the entries that have ended.
-    pub fn purge(&mut self, now: Moment)
-        ensures { self.new ≡ moved now self.old }
+    /// Moves the time to `now` if `now` is later, and removes the entries that have ended. Returns the number of entries
+    /// in memory after it, without the root's: those that are live.
+    pub fn purge(&mut self, now: Moment) -> usize
+        ensures moved { self.new ≡ moved now self.old }
+        ensures kept { result ≡ map.len self.new.live }
     {
         self.advance(now);
-        drop_ended(&mut self.held.entries, &mut self.ends, self.time, 0);
+        let entries = &mut self.held.entries;
+        drop_ended(entries, &mut self.ends, self.time, 0);
+        entries.len()
     }
 
     /// The number of live entries at `now`, without the root's.
@@ -132,10 +136,7 @@ impl<M: PrefixMap<Entry>> Cache<M> {
         ensures moved { self.new ≡ moved now self.old }
         ensures count { result ≡ map.len self.new.live }
     {
-        self.advance(now);
-        let entries = &mut self.held.entries;
-        drop_ended(entries, &mut self.ends, self.time, 0);
-        entries.len()
+        self.purge(now)
     }
 
     /// The number of entries in memory, without the root's: the live ones, and those that have ended but aren't removed

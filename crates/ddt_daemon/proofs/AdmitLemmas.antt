@@ -15,12 +15,11 @@ use Rattle.ddt_path.specs.declared.locator.Locator.{Locator}
 use Rattle.ddt_foreign.specs.declared.fault.ForeignRequestFault.{ForeignRequestFault}
 use Rattle.ddt_foreign.specs.declared.fault.ForeignRequestFault.TheVariants as fault
 use Rattle.ddt_foreign.specs.Request.{Asked, request_in}
-use Rattle.ddt_loop.specs.Acts.{Running}
 use Rattle.ddt_config.specs.declared.settings.resolver_settings.Settings.{Settings}
-use Rattle.ddt_daemon.specs.declared.itr_requests.WaitingRequest.{WaitingRequest}
 use Rattle.ddt_daemon.specs.declared.admission.Dropped.{Dropped}
 use Rattle.ddt_daemon.specs.declared.admission.Dropped.TheVariants.{Denied, TooLong, NoRequest, UnrecognizedAfi, Probe, NoReply, OwnAddress, Repeated, Full, SourceFull, SetFull, Looped, Memory}
 use Rattle.ddt_daemon.specs.Requests.{IsSpellable, classified, names_one, itr_request}
+use Rattle.ddt_daemon.specs.Resolving.{Resolving}
 use Rattle.ddt_daemon.specs.Admitted.{MayCome, IsNotAsked, IsDropped}
 
 no_header : Ipv6Header
@@ -104,22 +103,22 @@ of_request own (Err fault.MaskLength) why is = of_this NoRequest why tt is
 of_request own (Err fault.ManyInstances) why is = of_this NoRequest why tt is
 of_request own (Err fault.NoRloc) why is = of_this NoRequest why tt is
 
-by_why : (settings : Settings) (from : Locator) (bytes : List ℕ) (kept : List WaitingRequest) (w : Running) (why : Dropped) → IsOfRequest why → IsNotAsked settings from bytes why → IsDropped settings kept w from bytes why
-by_why settings from bytes kept w NoRequest its is = is
-by_why settings from bytes kept w UnrecognizedAfi its is = is
-by_why settings from bytes kept w Probe its is = is
-by_why settings from bytes kept w NoReply its is = is
-by_why settings from bytes kept w OwnAddress its is = is
-by_why settings from bytes kept w Denied its is = absurd its
-by_why settings from bytes kept w TooLong its is = absurd its
-by_why settings from bytes kept w Repeated its is = absurd its
-by_why settings from bytes kept w Full its is = absurd its
-by_why settings from bytes kept w SourceFull its is = absurd its
-by_why settings from bytes kept w SetFull its is = absurd its
-by_why settings from bytes kept w Looped its is = absurd its
-by_why settings from bytes kept w Memory its is = absurd its
+by_why : (settings : Settings) (from : Locator) (bytes : List ℕ) (now : ℕ) (w : Resolving) (why : Dropped) → IsOfRequest why → IsNotAsked settings from bytes why → IsDropped settings now w from bytes why
+by_why settings from bytes now w NoRequest its is = is
+by_why settings from bytes now w UnrecognizedAfi its is = is
+by_why settings from bytes now w Probe its is = is
+by_why settings from bytes now w NoReply its is = is
+by_why settings from bytes now w OwnAddress its is = is
+by_why settings from bytes now w Denied its is = absurd its
+by_why settings from bytes now w TooLong its is = absurd its
+by_why settings from bytes now w Repeated its is = absurd its
+by_why settings from bytes now w Full its is = absurd its
+by_why settings from bytes now w SourceFull its is = absurd its
+by_why settings from bytes now w SetFull its is = absurd its
+by_why settings from bytes now w Looped its is = absurd its
+by_why settings from bytes now w Memory its is = absurd its
 
 -- a message that may come is dropped for what it asks
-pub dropped_for : (settings : Settings) (from : Locator) (bytes : List ℕ) (kept : List WaitingRequest) (w : Running) (why : Dropped) → MayCome settings from bytes
-    → classified settings.listen (request_in bytes) ≡ Err why → IsDropped settings kept w from bytes why
-dropped_for settings from bytes kept w why may is = by_why settings from bytes kept w why (of_request settings.listen (request_in bytes) why is) (may, is)
+pub dropped_for : (settings : Settings) (from : Locator) (bytes : List ℕ) (now : ℕ) (w : Resolving) (why : Dropped) → MayCome settings from bytes
+    → classified settings.listen (request_in bytes) ≡ Err why → IsDropped settings now w from bytes why
+dropped_for settings from bytes now w why may is = by_why settings from bytes now w why (of_request settings.listen (request_in bytes) why is) (may, is)

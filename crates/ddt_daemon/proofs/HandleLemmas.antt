@@ -14,7 +14,9 @@ use Rattle.ddt_loop.specs.Acts.{Running}
 use Rattle.ddt_config.specs.declared.settings.resolver_settings.Settings.{Settings}
 use Rattle.ddt_daemon.specs.declared.admission.Admitted.TheVariants.{Waits as WaitsFor}
 use Rattle.ddt_daemon.specs.declared.admission.Waiter.{Waiter}
-use Rattle.ddt_daemon.specs.Admitted.{IsGranted}
+use Rattle.ddt_daemon.specs.declared.recent_requests.Recent.{Recent}
+use Rattle.ddt_daemon.specs.Resolving.{Resolving, resolving, at_moment}
+use Rattle.ddt_daemon.specs.Admitted.{IsGranted, IsRememberedAt}
 use Rattle.ddt_daemon.proofs.PlainLemmas.{referral_is_plain}
 use Rattle.std.specs.Prelude.{IfSome}
 use Rattle.std.specs.Result.{IsErr}
@@ -22,15 +24,16 @@ use Rattle.ddt_foreign.specs.Plain.{plain_in, Gives}
 use Rattle.ddt_resolver.specs.declared.pending.Pending.{Pending}
 use Rattle.ddt_daemon.specs.Spelled.{IsAskedFor, IsSpelledAs, short, unasked, untaken, taken}
 use Rattle.ddt_daemon.specs.Rounds as rounds
-use Rattle.ddt_daemon.specs.Rounds.{Resolving, resolving, at_moment, IsAsked, IsHandled, shared, asked}
+use Rattle.ddt_daemon.specs.Rounds.{IsAsked, IsHandled, shared, asked}
 
-pub handled_asked : {settings : Settings} {me : Locator} {now : ℕ} {p : Packet} {bytes : List ℕ} {w new : Resolving} {near : List Call} (a : Waiter)
+pub handled_asked : {settings : Settings} {me : Locator} {now : ℕ} {p : Packet} {bytes : List ℕ} {w new : Resolving} {near : List Call} (recent : List (Option Recent)) (a : Waiter)
     → is_of Encapsulated bytes ≡ true → IsGranted settings w.kept (at_moment now w.running) p.from bytes (WaitsFor a)
-    → IsAsked me now a (resolving (at_moment now w.running) w.kept w.counts) near new → IsHandled settings me now p bytes w near [] new
-handled_asked a sort granted (rounds.shares t k its same kept none is) =
-    shared a.request k sort granted.0 (rw (granted.2, granted.3) at kept) (rw (its, sym same) at granted.1) none refl is
-handled_asked a sort granted (rounds.asks servers its asks keeps) =
-    asked a.request servers sort granted.0 (rw its at granted.1) asks refl (rw (granted.2, granted.3) at keeps)
+    → IsRememberedAt now w.recent (WaitsFor a) recent → IsAsked me now a (resolving (at_moment now w.running) w.kept w.counts recent) near new
+    → IsHandled settings me now p bytes w near [] new
+handled_asked recent a sort granted fresh (rounds.shares t k its same kept none is) =
+    shared a.request k recent sort granted.0 (rw (granted.2, granted.3) at kept) (rw (its, sym same) at granted.1) (rw granted.2 at fresh) none refl is
+handled_asked recent a sort granted fresh (rounds.asks servers its asks keeps) =
+    asked a.request servers recent sort granted.0 (rw its at granted.1) (rw granted.2 at fresh) asks refl (rw (granted.2, granted.3) at keeps)
 
 -- what a reply is cut to is a Map-Referral
 pub plain_cut : {s : State} {from : Locator} {bytes heard lent : List ℕ} → IsCut s from bytes (Some heard) → lent ≡ heard → is_of Encapsulated lent ≡ false

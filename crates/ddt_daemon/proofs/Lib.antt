@@ -1,4 +1,5 @@
 pub mod KeptLemmas
+pub mod RecentLemmas
 pub mod AdmitLemmas
 pub mod PlaceLemmas
 pub mod CloseLemmas
@@ -9,3 +10,4 @@ pub mod BitLemmas
 pub mod OnwardLemmas
 pub mod TurnLemmas
 pub mod RunLemmas
+pub mod CameLemmas

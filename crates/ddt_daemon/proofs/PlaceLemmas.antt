@@ -21,7 +21,9 @@ use Rattle.ddt_daemon.specs.declared.admission.Dropped.TheVariants.{Denied, TooL
 use Rattle.ddt_daemon.specs.declared.admission.Lookup.{Lookup}
 use Rattle.ddt_daemon.specs.declared.admission.Lookup.TheVariants.{Shared, Own}
 use Rattle.ddt_daemon.specs.WaitingRequest.{waits_for}
-use Rattle.ddt_daemon.specs.Admitted.{Answers, BeginsAt, HasLookup, HasPlace, answered, shares, begins, IsRefusedPlace, IsRefusedWait, IsAllowed, IsAdmitted, IsDropped}
+use Rattle.ddt_daemon.specs.Recent.{coming}
+use Rattle.ddt_daemon.specs.Resolving.{Resolving, at_moment}
+use Rattle.ddt_daemon.specs.Admitted.{Answers, BeginsAt, HasLookup, HasPlace, answered, shares, begins, IsRefusedPlace, IsRefusedWait, IsAllowed, IsAdmitted, MayWait, IsDropped}
 
 begun : (a : Option Outcome) (own servers : List Locator) → Servers servers ≡ begins_with a own → (a ≡ None) × (servers ≡ own)
 begun None own servers is = (refl, cc is)
@@ -47,11 +49,26 @@ pub admitted_is : {settings : Settings} (kept : List WaitingRequest) (w : Runnin
     → IsAllowed settings from bytes q → waits_for kept q ≡ false → HasLookup kept w from q.xeid lookup → IsAdmitted settings kept w from bytes q
 admitted_is kept w {from} {q = q} lookup may unlike is = record { may = may; unlike = unlike; place = has_place kept w from q lookup is }
 
--- a request that has a place doesn't wait for one of these reasons
-pub refused_wait : {settings : Settings} (kept : List WaitingRequest) (w : Running) {from : Locator} {bytes : List ℕ} {q : ItrRequest} (why : Dropped)
-    → IsAdmitted settings kept w from bytes q → IsRefusedWait why → IsDropped settings kept w from bytes why
-refused_wait kept w {q = q} why admitted (inl is) = rw is (q, admitted)
-refused_wait kept w {q = q} why admitted (inr is) = rw is (q, admitted)
+pub may_wait : {settings : Settings} (kept : List WaitingRequest) (w : Running) {from : Locator} {bytes : List ℕ} {q : ItrRequest} (lookup : Lookup)
+    → IsAllowed settings from bytes q → waits_for kept q ≡ false → HasLookup kept w from q.xeid lookup → MayWait settings kept w from bytes q
+may_wait kept w lookup may unlike is = record { admitted = admitted_is kept w lookup may unlike is; lookup = lookup; has_lookup = is }
+
+-- a request that may wait doesn't for one of these reasons
+pub refused_wait : {settings : Settings} (now : ℕ) {from : Locator} {bytes : List ℕ} {q : ItrRequest} (w : Resolving) (why : Dropped)
+    → MayWait settings w.kept (at_moment now w.running) from bytes q → IsRefusedWait w.recent (coming q from now) why → IsDropped settings now w from bytes why
+refused_wait now {q = q} w Looped may is = (q, may, is)
+refused_wait now {q = q} w Memory may is = (q, may, is)
+refused_wait now w Full may is = absurd is
+refused_wait now w SourceFull may is = absurd is
+refused_wait now w SetFull may is = absurd is
+refused_wait now w Denied may is = absurd is
+refused_wait now w TooLong may is = absurd is
+refused_wait now w NoRequest may is = absurd is
+refused_wait now w UnrecognizedAfi may is = absurd is
+refused_wait now w Probe may is = absurd is
+refused_wait now w NoReply may is = absurd is
+refused_wait now w OwnAddress may is = absurd is
+refused_wait now w Repeated may is = absurd is
 
 -- an answer with which a lookup would begin is remembered
 pub answers_with : (s : State) (x : Xeid) (p : List ℕ) (e : Entry) (o : Outcome) → IsFound s.known (xeid_path x) p e → Answer o ≡ beginning_at p e → Answers s x o
@@ -61,18 +78,18 @@ answers_with s x p e o found is = (p, e, found, answered_by (answer_of p e) e.se
     answered_by None own o is = absurd (cc is)
     answered_by (Some o') own o is = cc is
 
-pub refused_is : {settings : Settings} (kept : List WaitingRequest) (w : Running) {from : Locator} {bytes : List ℕ} {q : ItrRequest} (why : Dropped)
-    → IsAllowed settings from bytes q → waits_for kept q ≡ false → IsRefusedPlace kept w from q.xeid why → IsDropped settings kept w from bytes why
-refused_is kept w {q = q} Full may unlike is = (q, record { may = may; unlike = unlike; unanswered = is.0 }, is.1)
-refused_is kept w {q = q} SourceFull may unlike is = (q, record { may = may; unlike = unlike; unanswered = is.0 }, is.1)
-refused_is kept w {q = q} SetFull may unlike is = (q, record { may = may; unlike = unlike; unanswered = is.0 }, is.1)
-refused_is kept w Denied may unlike is = absurd is
-refused_is kept w TooLong may unlike is = absurd is
-refused_is kept w NoRequest may unlike is = absurd is
-refused_is kept w UnrecognizedAfi may unlike is = absurd is
-refused_is kept w Probe may unlike is = absurd is
-refused_is kept w NoReply may unlike is = absurd is
-refused_is kept w OwnAddress may unlike is = absurd is
-refused_is kept w Looped may unlike is = absurd is
-refused_is kept w Repeated may unlike is = absurd is
-refused_is kept w Memory may unlike is = absurd is
+pub refused_is : {settings : Settings} (now : ℕ) {from : Locator} {bytes : List ℕ} {q : ItrRequest} (w : Resolving) (why : Dropped)
+    → IsAllowed settings from bytes q → waits_for w.kept q ≡ false → IsRefusedPlace w.kept (at_moment now w.running) from q.xeid why → IsDropped settings now w from bytes why
+refused_is now {q = q} w Full may unlike is = (q, record { may = may; unlike = unlike; unanswered = is.0 }, is.1)
+refused_is now {q = q} w SourceFull may unlike is = (q, record { may = may; unlike = unlike; unanswered = is.0 }, is.1)
+refused_is now {q = q} w SetFull may unlike is = (q, record { may = may; unlike = unlike; unanswered = is.0 }, is.1)
+refused_is now w Denied may unlike is = absurd is
+refused_is now w TooLong may unlike is = absurd is
+refused_is now w NoRequest may unlike is = absurd is
+refused_is now w UnrecognizedAfi may unlike is = absurd is
+refused_is now w Probe may unlike is = absurd is
+refused_is now w NoReply may unlike is = absurd is
+refused_is now w OwnAddress may unlike is = absurd is
+refused_is now w Looped may unlike is = absurd is
+refused_is now w Repeated may unlike is = absurd is
+refused_is now w Memory may unlike is = absurd is

@@ -30,7 +30,8 @@ use Rattle.ddt_daemon.specs.declared.itr_requests.WaitingRequest.{WaitingRequest
 use Rattle.ddt_daemon.specs.Admitted.{Answers, IsAdmitted}
 use Rattle.ddt_daemon.specs.Goes.{sharers, sharer_if, goes_on, Closes, starts, one, Follows}
 use Rattle.ddt_daemon.specs.Rounds as rounds
-use Rattle.ddt_daemon.specs.Rounds.{Resolving, resolving, at_moment, HasWaited, WaitsAs, KeepsAsked, at_once, waits, HearsReply, HearsSpelled, IsHeard, IsHandled, IsRound, no_packet, failed, came}
+use Rattle.ddt_daemon.specs.Resolving.{Resolving, resolving, at_moment}
+use Rattle.ddt_daemon.specs.Rounds.{HasWaited, WaitsAs, KeepsAsked, at_once, waits, HearsReply, HearsSpelled, IsHeard, IsHandled, IsRound, no_packet, failed, came}
 use Rattle.ddt_daemon.specs.Runs.{HasServed, begins, round, tick, hastening, resending, forgetting, waiting, renewal, IsSpelledCall, as_it_is, request, referral, AreSpelled, RunsAsAResolver, IsOnward, AreRequests, IsAny, OnlyRequestsGoOn}
 use Rattle.ddt_daemon.specs.Runs.{none as spelled_none, one as spelled_one}
 use Rattle.ddt_daemon.specs.Requests.{AsksFor}
@@ -50,8 +51,8 @@ sharers_push : (kept : List WaitingRequest) (k : WaitingRequest) (b : _) → k.b
 sharers_push kept k b is = sharers_append kept (k ∷ []) ∙ ap (λ rest. sharers kept ++ rest) (append-nil (sharer_if k.begins k) ∙ ap (λ s. sharer_if s k) is)
 
 same_sharers : (servers : List Locator) (from : Locator) (bytes : List ℕ) (q : ItrRequest) (w new : Resolving) → KeepsAsked servers from bytes q w new → sharers new.kept ≡ sharers w.kept
-same_sharers servers from bytes q w new (at_once desk kept counts) = ap sharers kept
-same_sharers servers from bytes q w new (waits k s desk kept counts) = ap sharers kept ∙ (sharers_push w.kept k (Some servers) s.begins ∙ append-nil (sharers w.kept))
+same_sharers servers from bytes q w new (at_once desk kept counts recent) = ap sharers kept
+same_sharers servers from bytes q w new (waits k s desk kept counts recent) = ap sharers kept ∙ (sharers_push w.kept k (Some servers) s.begins ∙ append-nil (sharers w.kept))
 
 -- where an answer is remembered, an ask ends with it, and the ITR is told
 asks_at_once : (me : Locator) (now : ℕ) (q : ItrRequest) (o : Outcome) (w : Running) (near : List Call) → IsTrue (is_path (xeid_path q.xeid)) → Answers (moved now w.state) q.xeid o → IsToldItr me o q near
@@ -136,7 +137,7 @@ module _ (may_begin : State → Type 0) (me : Locator) (start : Running) where
   heard_run : {calls : List Call} (now : ℕ) (p : Packet) (bytes : List ℕ) (w new : Resolving) (near far : List Call) → now ≤ last_moment → Ran calls (sharers w.kept) w.running
       → IsHeard me now p bytes w near far new → Ran (calls ++ polled me (Ok (Some p)) bytes ∷ near) (sharers new.kept) new.running
   heard_run now p bytes w new near far le ran (rounds.other_port port is off stays) = rw (is, stays) (passed_run (polled me (Ok (Some p)) bytes) ran refl)
-  heard_run now p bytes w new near far le ran (rounds.lost_whole t l port its is off stays) = rw (is, stays) (passed_run (polled me (Ok (Some p)) bytes) ran refl)
+  heard_run now p bytes w new near far le ran (rounds.lost_whole t l port its gives is off stays) = rw (is, stays) (passed_run (polled me (Ok (Some p)) bytes) ran refl)
   heard_run now p bytes w new near far le ran (rounds.spelled plain port spell h) =
       spelled_run now p bytes (runs.heard_of bytes plain) w new near far le ran port (heard_call me p bytes w.running.state plain spell) h
 
@@ -160,7 +161,7 @@ module _ (may_begin : State → Type 0) (me : Locator) (start : Running) where
       rw (is_none, stays) (passed_run (polled me (Ok (Some p)) bytes) (ran.0, ran.1, waited_run now le passes ran.2) refl)
   handled_run settings now p bytes near far w new ran le (rounds.answered q o sort admitted its tells nothing stays) =
       rw stays (asked_run settings now p bytes near q w w.running (at_moment now w.running) ran ran.2 le admitted (asks_at_once me now q o w.running near admitted.may.identifier its tells))
-  handled_run settings now p bytes near far w new ran le (rounds.shared q k sort admitted kept own is_none nothing stays) =
+  handled_run settings now p bytes near far w new ran le (rounds.shared q k recent sort admitted kept own fresh is_none nothing stays) =
       rw (is_none, stays, sharers_push w.kept k None kept.begins) (
         ran.0 ++ polled me (Ok (Some p)) admitted.may.spelled.0 ∷ [],
         spelled_poll (polled me (Ok (Some p)) bytes) (polled me (Ok (Some p)) admitted.may.spelled.0) [] ran.1
@@ -168,8 +169,8 @@ module _ (may_begin : State → Type 0) (me : Locator) (start : Running) where
         shared most_bytes p admitted.may.spelled.0 (record { ticket = k.ticket; request = k.request }) (waited now ran.2 le)
             (rw kept.request admitted.may.spelled.1) (rw kept.request own.1),
       )
-  handled_run settings now p bytes near far w new ran le (rounds.asked q servers sort admitted placed act nothing keeps) =
-      rw (same_sharers servers p.from bytes q (resolving (at_moment now w.running) w.kept w.counts) new keeps)
+  handled_run settings now p bytes near far w new ran le (rounds.asked q servers recent sort admitted placed fresh act nothing keeps) =
+      rw (same_sharers servers p.from bytes q (resolving (at_moment now w.running) w.kept w.counts recent) new keeps)
       (asked_run settings now p bytes near q w (at_moment now w.running) new.running ran (waited now ran.2 le) le admitted act)
   handled_run settings now p bytes near far w new ran le (rounds.heard sort is) = heard_run now p bytes w new near far le ran is
 
@@ -278,13 +279,13 @@ kept_more : (bytes : List ℕ) (q : ItrRequest) (from : Locator) (servers : Opti
 kept_more bytes q from servers kept k asks_it w all = All-push IsKeptRequest kept k all (rw (w.bytes_are, w.request) asks_it)
 
 kept_asked : (servers : List Locator) (from : Locator) (bytes : List ℕ) (q : ItrRequest) (w new : Resolving) → AsksFor bytes q → KeepsAsked servers from bytes q w new → AreRequests w.kept → AreRequests new.kept
-kept_asked servers from bytes q w new asks_it (at_once desk kept counts) all = rw kept all
-kept_asked servers from bytes q w new asks_it (waits k s desk kept counts) all = rw kept (kept_more bytes q from (Some servers) w.kept k asks_it s all)
+kept_asked servers from bytes q w new asks_it (at_once desk kept counts recent) all = rw kept all
+kept_asked servers from bytes q w new asks_it (waits k s desk kept counts recent) all = rw kept (kept_more bytes q from (Some servers) w.kept k asks_it s all)
 
 heard_onward : (me : Locator) (now : ℕ) (p : Packet) (bytes : List ℕ) (w new : Resolving) (near far : List Call) → IsHeard me now p bytes w near far new → AreRequests w.kept
     → AreRequests new.kept × All (IsOnward me) far
 heard_onward me now p bytes w new near far (rounds.other_port port is off same) all = rw (same, off) (all, All-nil (IsOnward me))
-heard_onward me now p bytes w new near far (rounds.lost_whole t l port its is off same) all = rw (same, off) (all, All-nil (IsOnward me))
+heard_onward me now p bytes w new near far (rounds.lost_whole t l port its gives is off same) all = rw (same, off) (all, All-nil (IsOnward me))
 heard_onward me now p bytes w new near far (rounds.spelled plain port spell (rounds.lost wide is off same)) all = rw (same, off) (all, All-nil (IsOnward me))
 heard_onward me now p bytes w new near far (rounds.spelled plain port spell (rounds.whole cuts h)) all = followed me (Some p.from) h.ended w.kept h.tells far new.kept h.follows all
 heard_onward me now p bytes w new near far (rounds.spelled plain port spell (rounds.cut heard cuts h)) all = followed me (Some p.from) h.ended w.kept h.tells far new.kept h.follows all
@@ -292,11 +293,11 @@ heard_onward me now p bytes w new near far (rounds.spelled plain port spell (rou
 handled_onward : (me : Locator) (settings : Settings) (now : ℕ) (p : Packet) (bytes : List ℕ) (w new : Resolving) (near far : List Call) → IsHandled settings me now p bytes w near far new
     → AreRequests w.kept → AreRequests new.kept × All (IsOnward me) far
 handled_onward me settings now p bytes w new near far (rounds.dropped why v sort is passes is_none off stays) all = rw (off, stays) (all, All-nil (IsOnward me))
-handled_onward me settings now p bytes w new near far (rounds.shared q k sort admitted kept own is_none off stays) all =
+handled_onward me settings now p bytes w new near far (rounds.shared q k recent sort admitted kept own fresh is_none off stays) all =
     rw (off, stays) (kept_more bytes q p.from None w.kept k (settings.listen, admitted.may.asks) kept all, All-nil (IsOnward me))
 handled_onward me settings now p bytes w new near far (rounds.answered q o sort admitted its tells off stays) all = rw (off, stays) (all, All-nil (IsOnward me))
-handled_onward me settings now p bytes w new near far (rounds.asked q servers sort admitted placed act off keeps) all =
-    rw off (kept_asked servers p.from bytes q (resolving (at_moment now w.running) w.kept w.counts) new (settings.listen, admitted.may.asks) keeps all, All-nil (IsOnward me))
+handled_onward me settings now p bytes w new near far (rounds.asked q servers recent sort admitted placed fresh act off keeps) all =
+    rw off (kept_asked servers p.from bytes q (resolving (at_moment now w.running) w.kept w.counts recent) new (settings.listen, admitted.may.asks) keeps all, All-nil (IsOnward me))
 handled_onward me settings now p bytes w new near far (rounds.heard sort is) all = heard_onward me now p bytes w new near far is all
 
 round_onward : (me : Locator) (settings : Settings) (now : ℕ) (w new : Resolving) (near far : List Call) → IsRound settings me now w near far new → AreRequests w.kept

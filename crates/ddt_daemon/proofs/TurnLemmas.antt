@@ -1,6 +1,6 @@
 -- The turns of a server, one after the other, and the bit D.
 use Rattle.std.proofs.Common.{◌≡◌, ℕ, ◌+◌, ◌*◌, ◌/◌, ◌%◌, List, [], ◌∷◌, ◌++◌, get_or, set, length, refl, sym, ap, ◌∙◌, subst, arith}
-use Rattle.std.specs.Prelude.{Option, Some, Ok, Err, true, false, ◌==◌}
+use Rattle.std.specs.Prelude.{Option, Some, Ok, Err, true, false, ◌==◌, ◌≢◌}
 use Rattle.std.proofs.Common.{eqb-true}
 use Rattle.std.proofs.lemmas.Bool.{false≢true}
 use Rattle.std.proofs.lemmas.List.{length_push, flat_map_more}
@@ -19,7 +19,7 @@ use Rattle.ddt_sockets.specs.declared.wire_calls.Packet.{Packet}
 use Rattle.ddt_sockets.specs.Turns.{Outgoing, most_bytes, AreTried}
 use Rattle.ddt_daemon.specs.declared.service.Service.{Service}
 use Rattle.ddt_daemon.specs.declared.service.Service.TheVariants.{NoRequest, UnrecognizedAfi, Probe, Denied, Client, Itr}
-use Rattle.ddt_daemon.specs.ServerTurns.{service_for, reply_for, onward_for, IsTurn, served, AreTurns}
+use Rattle.ddt_daemon.specs.ServerTurns.{service_for, reply_for, onward_for, IsTurn, served, out_of_memory, AreTurns}
 
 -- so many turns so far
 pub record HasTurned (before now : Option (List Call)) (c : Outline) (settings : ServerSettings) (at : Locator) (count : ℕ) : Type 0 where
@@ -66,6 +66,12 @@ pub served_as : (c : Outline) (settings : ServerSettings) (at : Locator) (p : Pa
     → service_for c.role settings p.from v ≡ s → AreTried at (reply_for c p v s ++ onward_for c bytes v s) tries
     → IsTurn c settings at (Received at most_bytes (Ok (Some p)) bytes ∷ tries)
 served_as c settings at p bytes v s tries read is tried = served p bytes tries (rw (read, is) tried)
+
+-- a request for which there is something to send is lost
+pub lost_as : (c : Outline) (settings : ServerSettings) (at : Locator) (p : Packet) (bytes : List ℕ) (v : Asked) (s : Service) → request_in bytes ≡ Ok v
+    → service_for c.role settings p.from v ≡ s → reply_for c p v s ++ onward_for c bytes v s ≢ []
+    → IsTurn c settings at (Received at most_bytes (Ok (Some p)) bytes ∷ [])
+lost_as c settings at p bytes v s read is some = out_of_memory p bytes (rw (read, is) some)
 
 -- of a request that is dropped nothing is sent
 pub nothing_for : (c : Outline) (at : Locator) (p : Packet) (bytes : List ℕ) (v : Asked) (s : Service) → (s ≡ Client → ⊥) → (s ≡ Itr → ⊥)

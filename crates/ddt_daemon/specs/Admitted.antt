@@ -23,7 +23,10 @@ use Rattle.ddt_daemon.specs.declared.admission.Place.{Place}
 use Rattle.ddt_daemon.specs.declared.admission.Place.TheVariants.{Answered, Waits}
 use Rattle.ddt_daemon.specs.declared.admission.Admitted.{Admitted as Granted}
 use Rattle.ddt_daemon.specs.declared.admission.Admitted.TheVariants.{Answered as AnsweredNow, Waits as WaitsFor}
+use Rattle.ddt_daemon.specs.declared.recent_requests.Recent.{Recent}
 use Rattle.ddt_daemon.specs.WaitingRequest.{waits_for, of_source, of_set}
+use Rattle.ddt_daemon.specs.Recent.{coming, HasBefore, IsNew}
+use Rattle.ddt_daemon.specs.Resolving.{Resolving, at_moment}
 use Rattle.ddt_daemon.specs.Requests.{classified, IsSpellable}
 
 -- the most bytes of a request that waits
@@ -99,9 +102,12 @@ IsRefusedPlace kept w from x SourceFull = IsUnanswered w.state x × IsFullOfSour
 IsRefusedPlace kept w from x SetFull = IsUnanswered w.state x × IsFullOfSet kept w from x
 IsRefusedPlace kept w from x _ = ⊥
 
--- why a request that has a place doesn't wait: it comes back from where it was sent on, or there is no memory
-abbrev pub IsRefusedWait : Dropped → Type 0
-IsRefusedWait why = (why ≡ Looped) ⊎ (why ≡ Memory)
+-- why a request that has a place doesn't wait: it comes back from where it was sent on, or it doesn't, and there is no
+-- memory
+abbrev pub IsRefusedWait : List (Option Recent) → Recent → Dropped → Type 0
+IsRefusedWait recent came Looped = HasBefore recent came
+IsRefusedWait recent came Memory = HasBefore recent came → ⊥
+IsRefusedWait recent came _ = ⊥
 
 -- it may come from there, and it is short enough to be kept
 abbrev pub MayCome : Settings → Locator → List ℕ → Type 0
@@ -139,6 +145,11 @@ abbrev pub HasRoomToWait : ℕ → ℕ → Granted → Type 0
 HasRoomToWait count room (AnsweredNow a) = Unit {0}
 HasRoomToWait count room (WaitsFor a) = count < room
 
+-- what is remembered lately of a request that is asked for: it, only if it waits
+abbrev pub IsRememberedAt : ℕ → List (Option Recent) → Granted → List (Option Recent) → Type 0
+IsRememberedAt now old (AnsweredNow a) new = new ≡ old
+IsRememberedAt now old (WaitsFor a) new = IsNew old (coming a.request a.from now) new
+
 -- it would wait: no answer is remembered
 pub record WouldWait (settings : Settings) (kept : List WaitingRequest) (w : Running) (from : Locator) (bytes : List ℕ)
     (q : ItrRequest) : Type 0 where
@@ -146,26 +157,38 @@ pub record WouldWait (settings : Settings) (kept : List WaitingRequest) (w : Run
   pub unlike : waits_for kept q ≡ false
   pub unanswered : IsUnanswered w.state q.xeid
 
+-- it may wait: there is a place for it, at which it waits for a lookup
+pub record MayWait (settings : Settings) (kept : List WaitingRequest) (w : Running) (from : Locator) (bytes : List ℕ)
+    (q : ItrRequest) : Type 0 where
+  pub admitted : IsAdmitted settings kept w from bytes q
+  pub lookup : Lookup
+  pub has_lookup : HasLookup kept w from q.xeid lookup
+
 -- It is dropped, by the first of these reasons. Full, SourceFull, SetFull: no answer is remembered, and too many wait,
--- of all, of its source, or for the referral set at which its lookup would begin. Looped: there is a place for it, but
--- it came back from where it was sent on to; no answer rests on what came before. Memory: there is a place for it, but
--- no memory to keep it in.
-abbrev pub IsDropped : Settings → List WaitingRequest → Running → Locator → List ℕ → Dropped → Type 0
-IsDropped settings kept w from bytes Denied = is_allowed settings.allow from ≡ false
-IsDropped settings kept w from bytes TooLong =
+-- of all, of its source, or for the referral set at which its lookup would begin. Looped: it may wait, but came back
+-- from where it was sent on to. Memory: it may wait and didn't come back, but there is no memory to keep it in.
+abbrev pub IsDropped : Settings → ℕ → Resolving → Locator → List ℕ → Dropped → Type 0
+IsDropped settings now w from bytes Denied = is_allowed settings.allow from ≡ false
+IsDropped settings now w from bytes TooLong =
     (is_allowed settings.allow from ≡ true) × (most_kept_bytes < length bytes)
-IsDropped settings kept w from bytes NoRequest = IsNotAsked settings from bytes NoRequest
-IsDropped settings kept w from bytes UnrecognizedAfi = IsNotAsked settings from bytes UnrecognizedAfi
-IsDropped settings kept w from bytes Probe = IsNotAsked settings from bytes Probe
-IsDropped settings kept w from bytes NoReply = IsNotAsked settings from bytes NoReply
-IsDropped settings kept w from bytes OwnAddress = IsNotAsked settings from bytes OwnAddress
-IsDropped settings kept w from bytes Repeated =
-    (q : ItrRequest) × IsAllowed settings from bytes q × (waits_for kept q ≡ true)
-IsDropped settings kept w from bytes Full =
-    (q : ItrRequest) × WouldWait settings kept w from bytes q × (most_pending ≤ length kept)
-IsDropped settings kept w from bytes SourceFull =
-    (q : ItrRequest) × WouldWait settings kept w from bytes q × IsFullOfSource kept from
-IsDropped settings kept w from bytes SetFull =
-    (q : ItrRequest) × WouldWait settings kept w from bytes q × IsFullOfSet kept w from q.xeid
-IsDropped settings kept w from bytes Looped = (q : ItrRequest) × IsAdmitted settings kept w from bytes q
-IsDropped settings kept w from bytes Memory = (q : ItrRequest) × IsAdmitted settings kept w from bytes q
+IsDropped settings now w from bytes NoRequest = IsNotAsked settings from bytes NoRequest
+IsDropped settings now w from bytes UnrecognizedAfi = IsNotAsked settings from bytes UnrecognizedAfi
+IsDropped settings now w from bytes Probe = IsNotAsked settings from bytes Probe
+IsDropped settings now w from bytes NoReply = IsNotAsked settings from bytes NoReply
+IsDropped settings now w from bytes OwnAddress = IsNotAsked settings from bytes OwnAddress
+IsDropped settings now w from bytes Repeated =
+    (q : ItrRequest) × IsAllowed settings from bytes q × (waits_for w.kept q ≡ true)
+IsDropped settings now w from bytes Full =
+    (q : ItrRequest) × WouldWait settings w.kept (at_moment now w.running) from bytes q
+    × (most_pending ≤ length w.kept)
+IsDropped settings now w from bytes SourceFull =
+    (q : ItrRequest) × WouldWait settings w.kept (at_moment now w.running) from bytes q × IsFullOfSource w.kept from
+IsDropped settings now w from bytes SetFull =
+    (q : ItrRequest) × WouldWait settings w.kept (at_moment now w.running) from bytes q
+    × IsFullOfSet w.kept (at_moment now w.running) from q.xeid
+IsDropped settings now w from bytes Looped =
+    (q : ItrRequest) × MayWait settings w.kept (at_moment now w.running) from bytes q
+    × HasBefore w.recent (coming q from now)
+IsDropped settings now w from bytes Memory =
+    (q : ItrRequest) × MayWait settings w.kept (at_moment now w.running) from bytes q
+    × (HasBefore w.recent (coming q from now) → ⊥)

@@ -5,6 +5,7 @@ pub mod Counted
 pub mod Answers
 pub mod Requests
 pub mod ServerTurns
+pub mod Resolving
 pub mod Admitted
 pub mod Onward
 pub mod Goes

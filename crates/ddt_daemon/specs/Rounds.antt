@@ -1,5 +1,5 @@
 -- The rounds of a daemon: of a server at one of its sockets, and of a resolver between ITRs, servers and Map-Servers.
-use Rattle.std.specs.Prelude.{Bool, Result, IfSome, IfNone, is_some, ℕ, ◌≡◌, ◌≢◌, ◌⊎◌, List, [], ◌∷◌, ◌++◌, Option, Some, None, Ok, Err, true, false, ◌+◌}
+use Rattle.std.specs.Prelude.{Bool, Result, IfSome, IfNone, IsOk, is_some, ℕ, ◌≡◌, ◌≢◌, ◌⊎◌, List, [], ◌∷◌, ◌++◌, Option, Some, None, Ok, Err, true, false, ◌+◌}
 use Rattle.ddt_path.specs.declared.locator.Locator.{Locator}
 use Rattle.ddt_sockets.specs.declared.wire_calls.Call.{Call}
 use Rattle.ddt_sockets.specs.declared.wire_calls.Call.TheVariants.{Received, Tried}
@@ -19,6 +19,7 @@ use Rattle.ddt_path.specs.declared.record.Outcome.{Outcome}
 use Rattle.ddt_path.specs.declared.record.ReferralRecord.{ReferralRecord}
 use Rattle.ddt_resolver.specs.declared.pending.Pending.{Pending}
 use Rattle.ddt_resolver.specs.State.{State, moved}
+use Rattle.ddt_foreign.specs.Plain.{plain_in}
 use Rattle.ddt_resolver.specs.Within.{IsCut, IsWide}
 use Rattle.ddt_loop.specs.Runs.{heard_of, MayEndBy, EndsByReply}
 use Rattle.ddt_wire.specs.declared.message_type.MessageType.TheVariants.{Encapsulated}
@@ -30,28 +31,17 @@ use Rattle.ddt_daemon.specs.declared.admission.Lookup.TheVariants.{Shared, Own}
 use Rattle.ddt_daemon.specs.declared.admission.Waiter.{Waiter}
 use Rattle.ddt_daemon.specs.declared.admission.Dropped.{Dropped}
 use Rattle.ddt_daemon.specs.declared.counts.ResolverCounts.{ResolverCounts}
+use Rattle.ddt_daemon.specs.declared.recent_requests.Recent.{Recent}
+use Rattle.ddt_daemon.specs.Recent.{coming, IsNew}
+use Rattle.ddt_daemon.specs.Resolving.{Resolving, resolving, at_moment}
 use Rattle.ddt_daemon.specs.Admitted.{Answers, IsAdmitted, IsDropped, HasLookup}
 use Rattle.ddt_daemon.specs.Counted.{with_dropped, with_lookup, with_shared, with_cut, with_why}
 use Rattle.ddt_daemon.specs.Goes.{Follows, with_end}
 use Rattle.ddt_daemon.specs.Spelled.{IsAskedFor, IsSpelledAs}
 
--- a resolver, the requests that wait for its lookups, and what it has counted
-pub record Resolving : Type 0 where
-  pub running : Running
-  pub kept : List WaitingRequest
-  pub counts : ResolverCounts
-
--- a resolver of these three parts, as a round or a tick begins with it and leaves it
-abbrev pub resolving : Running → List WaitingRequest → ResolverCounts → Resolving
-resolving w k c = record { running = w; kept = k; counts = c }
-
 -- time has passed, or hasn't: nothing else changes
 abbrev pub HasWaited : ℕ → Running → Running → Type 0
 HasWaited now w v = (v ≡ w) ⊎ (v ≡ running (moved now w.state) w.desk)
-
--- the resolver at the moment of a request
-abbrev pub at_moment : ℕ → Running → Running
-at_moment now w = running (moved now w.state) w.desk
 
 -- A request of an ITR that came from there waits, for a lookup that has begun at these servers, or for that of another.
 pub record WaitsAs (begins_ : Option (List Locator)) (from : Locator) (bytes : List ℕ) (q : ItrRequest) (k : WaitingRequest) : Type
@@ -65,17 +55,18 @@ pub record WaitsAs (begins_ : Option (List Locator)) (from : Locator) (bytes : L
 -- refused, and nobody waits for it. `waits`: the request, where its ITR waits for the lookup that has started.
 pub data KeepsAsked (servers : List Locator) (from : Locator) (bytes : List ℕ) (q : ItrRequest) (w new : Resolving) : Type
     0 where
-  at_once : new.running.desk ≡ w.running.desk → new.kept ≡ w.kept → new.counts ≡ w.counts
+  at_once : new.running.desk ≡ w.running.desk → new.kept ≡ w.kept → new.counts ≡ w.counts → new.recent ≡ w.recent
       → KeepsAsked servers from bytes q w new
   waits : (k : WaitingRequest) → WaitsAs (Some servers) from bytes q k
       → new.running.desk ≡ with_requester w.running.desk k.ticket (Itr q)
-      → new.kept ≡ w.kept ++ k ∷ [] → new.counts ≡ with_lookup w.counts → KeepsAsked servers from bytes q w new
+      → new.kept ≡ w.kept ++ k ∷ [] → new.counts ≡ with_lookup w.counts → new.recent ≡ w.recent
+      → KeepsAsked servers from bytes q w new
 
 -- What becomes of a request that waits. `shares`: it waits for the lookup of a ticket. `asks`: it is asked for.
 pub data IsAsked (me : Locator) (now : ℕ) (a : Waiter) (w : Resolving) (near : List Call) (new : Resolving) : Type 0
   where
     shares : (t : ℕ) (k : WaitingRequest) → a.lookup ≡ Shared t → k.ticket ≡ t → WaitsAs None a.from a.bytes a.request k
-        → near ≡ [] → new ≡ resolving w.running (w.kept ++ k ∷ []) (with_shared w.counts)
+        → near ≡ [] → new ≡ resolving w.running (w.kept ++ k ∷ []) (with_shared w.counts) w.recent
         → IsAsked me now a w near new
     asks : (servers : List Locator) → a.lookup ≡ Own servers → AsksForItr me now a.request w.running near new.running
         → KeepsAsked servers a.from a.bytes a.request w new → IsAsked me now a w near new
@@ -100,6 +91,7 @@ pub record HearsReply (me : Locator) (now : ℕ) (p : Packet) (heard : List ℕ)
   pub is_ignored : IfSome ignored (IsIgnored now p heard w.running)
   pub is_used : IfNone ignored ((why : Ignored) → IsIgnored now p heard w.running why → ⊥)
   pub counts : new.counts ≡ with_end (with_why w.counts ignored) ended
+  pub recent : new.recent ≡ w.recent
 
 -- a datagram of this source is a reply that reaches beyond the zone of its server, so that it takes memory to cut it
 abbrev pub ReachesBeyond : State → Locator → List ℕ → Type 0
@@ -120,40 +112,44 @@ pub data HearsSpelled (me : Locator) (now : ℕ) (p : Packet) (bytes : List ℕ)
       → HearsSpelled me now p bytes w near far new
 
 -- What is done with a datagram that is no Encapsulated Control Message. `other_port`: it isn't from UDP port 4342, and
--- dropped. `spelled`: it is heard in the one spelling. `lost_whole`: its nonce asks for an identifier, and there is no
--- memory to spell it.
+-- dropped. `spelled`: it is heard in the one spelling. `lost_whole`: its nonce asks for an identifier, for
+-- which something is taken of it, and there is no memory to spell that.
 pub data IsHeard (me : Locator) (now : ℕ) (p : Packet) (bytes : List ℕ) (w : Resolving) (near far : List Call)
     (new : Resolving) : Type 0 where
   other_port : p.port ≢ control_port → near ≡ [] → far ≡ [] → new ≡ w → IsHeard me now p bytes w near far new
   spelled : (plain : Option (List ℕ)) → p.port ≡ control_port → IsSpelledAs w.running.state bytes plain
       → HearsSpelled me now p (heard_of bytes plain) w near far new → IsHeard me now p bytes w near far new
-  lost_whole : (t : ℕ) (l : Pending) → p.port ≡ control_port → IsAskedFor w.running.state bytes t l → near ≡ []
-      → far ≡ [] → new ≡ w → IsHeard me now p bytes w near far new
+  lost_whole : (t : ℕ) (l : Pending) → p.port ≡ control_port → IsAskedFor w.running.state bytes t l
+      → IsOk (plain_in l.x bytes) → near ≡ [] → far ≡ [] → new ≡ w → IsHeard me now p bytes w near far new
 
 -- What is done with a packet. `dropped`: an Encapsulated Control Message is dropped, and counted by why. `answered`: it
 -- is a request whose answer is remembered, and the ITR is told. `shared`: it is a request, and shares the lookup that
 -- an ITR waits for. `asked`: it is a request, and asked for; where it waits, the servers are kept at which its lookup
--- begins, so that it counts among those of its referral set. `heard`: any other datagram.
+-- begins, so that it counts among those of its referral set. Only a request that waits is remembered lately, and only
+-- one that doesn't come back waits. `heard`: any other datagram.
 pub data IsHandled (settings : Settings) (me : Locator) (now : ℕ) (p : Packet) (bytes : List ℕ) (w : Resolving)
     (near far : List Call) (new : Resolving) : Type 0 where
   dropped : (why : Dropped) (v : Running) → is_of Encapsulated bytes ≡ true
-      → IsDropped settings w.kept (at_moment now w.running) p.from bytes why → HasWaited now w.running v → near ≡ []
-      → far ≡ [] → new ≡ resolving v w.kept (with_dropped w.counts why)
+      → IsDropped settings now w p.from bytes why → HasWaited now w.running v → near ≡ [] → far ≡ []
+      → new ≡ resolving v w.kept (with_dropped w.counts why) w.recent
       → IsHandled settings me now p bytes w near far new
   answered : (q : ItrRequest) (o : Outcome) → is_of Encapsulated bytes ≡ true
       → IsAdmitted settings w.kept (at_moment now w.running) p.from bytes q
       → Answers (moved now w.running.state) q.xeid o → IsToldItr me o q near → far ≡ []
-      → new ≡ resolving (at_moment now w.running) w.kept w.counts → IsHandled settings me now p bytes w near far new
-  shared : (q : ItrRequest) (k : WaitingRequest) → is_of Encapsulated bytes ≡ true
-      → IsAdmitted settings w.kept (at_moment now w.running) p.from bytes q → WaitsAs None p.from bytes q k
-      → HasLookup w.kept (at_moment now w.running) p.from q.xeid (Shared k.ticket) → near ≡ [] → far ≡ []
-      → new ≡ resolving (at_moment now w.running) (w.kept ++ k ∷ []) (with_shared w.counts)
+      → new ≡ resolving (at_moment now w.running) w.kept w.counts w.recent
       → IsHandled settings me now p bytes w near far new
-  asked : (q : ItrRequest) (servers : List Locator) → is_of Encapsulated bytes ≡ true
+  shared : (q : ItrRequest) (k : WaitingRequest) (recent : List (Option Recent)) → is_of Encapsulated bytes ≡ true
+      → IsAdmitted settings w.kept (at_moment now w.running) p.from bytes q → WaitsAs None p.from bytes q k
+      → HasLookup w.kept (at_moment now w.running) p.from q.xeid (Shared k.ticket)
+      → IsNew w.recent (coming q p.from now) recent → near ≡ [] → far ≡ []
+      → new ≡ resolving (at_moment now w.running) (w.kept ++ k ∷ []) (with_shared w.counts) recent
+      → IsHandled settings me now p bytes w near far new
+  asked : (q : ItrRequest) (servers : List Locator) (recent : List (Option Recent)) → is_of Encapsulated bytes ≡ true
       → IsAdmitted settings w.kept (at_moment now w.running) p.from bytes q
       → HasLookup w.kept (at_moment now w.running) p.from q.xeid (Own servers)
+      → IsNew w.recent (coming q p.from now) recent
       → AsksForItr me now q (at_moment now w.running) near new.running → far ≡ []
-      → KeepsAsked servers p.from bytes q (resolving (at_moment now w.running) w.kept w.counts) new
+      → KeepsAsked servers p.from bytes q (resolving (at_moment now w.running) w.kept w.counts recent) new
       → IsHandled settings me now p bytes w near far new
   heard : is_of Encapsulated bytes ≡ false → IsHeard me now p bytes w near far new
       → IsHandled settings me now p bytes w near far new
@@ -190,6 +186,7 @@ pub record IsTick (me : Locator) (now : ℕ) (w : Resolving) (near far : List Ca
   pub follows : Follows me None ended w.kept tells far new.kept
   pub calls_are : near ≡ tries ++ tells
   pub counts : new.counts ≡ with_end w.counts ended
+  pub recent : new.recent ≡ w.recent
 
 -- The lookup whose last request has this nonce is hastened: it goes on or ends as by a tick.
 pub record IsHastened (me : Locator) (now nonce : ℕ) (w : Resolving) (near far : List Call) (new : Resolving) : Type 0
@@ -204,6 +201,7 @@ pub record IsHastened (me : Locator) (now nonce : ℕ) (w : Resolving) (near far
     pub follows : Follows me None ended w.kept tells far new.kept
     pub calls_are : near ≡ tries ++ tells
     pub counts : new.counts ≡ with_end w.counts ended
+    pub recent : new.recent ≡ w.recent
 
 -- a number of ticks, one after the other
 pub data AreTicks (me : Locator) (now : ℕ) (w : Resolving) : ℕ → List Call → List Call → Resolving → Type 0 where

@@ -1,5 +1,5 @@
 -- What a Map-Resolver has done over any number of rounds, and what follows.
-use Rattle.std.specs.Prelude.{ℕ, ◌≡◌, ◌≤◌, List, [], ◌∷◌, ◌++◌, All, Option, Some, Result, Ok}
+use Rattle.std.specs.Prelude.{ℕ, ◌≡◌, ◌≤◌, true, List, [], ◌∷◌, ◌++◌, All, Contains, Option, Some, Result, Ok}
 use Rattle.ddt_path.specs.declared.locator.Locator.{Locator}
 use Rattle.ddt_path.specs.declared.xeid.Xeid.{Xeid}
 use Rattle.ddt_foreign.specs.Plain.{Gives}
@@ -14,13 +14,19 @@ use Rattle.ddt_resolver.specs.Front.{IsItrRequest}
 use Rattle.ddt_resolver.specs.State.{State, forgotten}
 use Rattle.ddt_loop.specs.Requesters.{opening_desk}
 use Rattle.ddt_loop.specs.Acts.{running, Resends}
+use Rattle.ddt_loop.specs.Polls.{polled}
 use Rattle.ddt_loop.specs.Runs.{BeginsSound, HasRun}
 use Rattle.ddt_daemon.specs.Onward.{with_d}
 use Rattle.ddt_config.specs.declared.settings.resolver_settings.Settings.{Settings}
 use Rattle.ddt_daemon.specs.declared.itr_requests.WaitingRequest.{WaitingRequest}
 use Rattle.ddt_daemon.specs.Goes.{sharers}
 use Rattle.ddt_daemon.specs.Requests.{AsksFor}
-use Rattle.ddt_daemon.specs.Rounds.{Resolving, resolving, at_moment, IsRound, IsTick, IsHastened}
+use Rattle.ddt_daemon.specs.declared.admission.Dropped.TheVariants.{Looped}
+use Rattle.ddt_daemon.specs.declared.recent_requests.Recent.{Recent}
+use Rattle.ddt_daemon.specs.Recent.{coming, comes_back}
+use Rattle.ddt_daemon.specs.Admitted.{IsDropped}
+use Rattle.ddt_daemon.specs.Resolving.{Resolving, resolving, at_moment}
+use Rattle.ddt_daemon.specs.Rounds.{IsRound, IsTick, IsHastened}
 
 -- What has been done so far, by the calls of the near wires and those of the far wires: rounds, each by the settings in
 -- force, ticks, lookups that are hastened, requests that are sent again, prefixes that are forgotten, time that passes,
@@ -43,13 +49,13 @@ pub data HasServed (may_begin : State → Type 0) (me : Locator) (start : Resolv
       → HasServed may_begin me start (calls ++ near) onward w
   forgetting : {calls onward : List Call} {w : Resolving} (p : List ℕ) → HasServed may_begin me start calls onward w
       → HasServed may_begin me start calls onward
-      (resolving (running (forgotten w.running.state p) w.running.desk) w.kept w.counts)
+      (resolving (running (forgotten w.running.state p) w.running.desk) w.kept w.counts w.recent)
   waiting : {calls onward : List Call} {w : Resolving} (now : ℕ) → HasServed may_begin me start calls onward w
       → now ≤ last_moment
-      → HasServed may_begin me start calls onward (resolving (at_moment now w.running) w.kept w.counts)
+      → HasServed may_begin me start calls onward (resolving (at_moment now w.running) w.kept w.counts w.recent)
   renewal : {calls onward : List Call} {w : Resolving} (new : State) → HasServed may_begin me start calls onward w
       → may_begin new → w.running.state.next ≤ new.next
-      → HasServed may_begin me start calls onward (resolving (running new (opening_desk [])) [] w.counts)
+      → HasServed may_begin me start calls onward (resolving (running new (opening_desk [])) [] w.counts w.recent)
 
 -- A call of the near wires, and the same in the one spelling. `as_it_is`: it stays so. `request`: what came asks for
 -- an ITR, and a request of the core's grammar asks the same. `referral`: what came answers a request for an identifier,
@@ -97,3 +103,20 @@ IsAny s = Unit {0}
 abbrev pub OnlyRequestsGoOn : Type 0
 OnlyRequestsGoOn = (me : Locator) (start : Resolving) (calls onward : List Call) (w : Resolving)
     → AreRequests start.kept → HasServed IsAny me start calls onward w → All (IsOnward me) onward
+
+-- a request has come: a datagram that was polled, from its address, asks it
+pub record HasCome (me : Locator) (calls : List Call) (came : Recent) : Type 0 where
+  pub packet : Packet
+  pub bytes : List ℕ
+  pub polled_it : Contains calls (polled me (Ok (Some packet)) bytes)
+  pub source : packet.from ≡ came.from
+  pub asks : AsksFor bytes came.request
+
+-- where nothing was remembered at first, a request is dropped as one that comes back only if the same has come before,
+-- from another address
+abbrev pub OnlyWhatCameIsLooped : Type 0
+OnlyWhatCameIsLooped = (me : Locator) (start : Resolving) (calls onward : List Call) (w : Resolving)
+    → start.recent ≡ [] → HasServed IsAny me start calls onward w
+    → (settings : Settings) (now : ℕ) (from : Locator) (bytes : List ℕ) → IsDropped settings now w from bytes Looped
+    → (q : ItrRequest) × (before : Recent) × AsksFor bytes q × HasCome me calls before
+    × (comes_back before (coming q from now) ≡ true)

@@ -1,6 +1,6 @@
 -- The turns of a server that also answers ITRs, and reads what other implementations write (RFC 8111, sections 7.1 and
 -- 7.2; RFC 9301, sections 5, 5.2 and 8.3).
-use Rattle.std.specs.Prelude.{ℕ, ◌≡◌, ◌⊎◌, ◌&&◌, Bool, true, false, if◌then◌else◌, List, [], ◌∷◌, ◌++◌, length, slice_get, flat_map, All, count_by, is_some, Option, Some, None, Result, Ok, Err}
+use Rattle.std.specs.Prelude.{ℕ, ◌≡◌, ◌≢◌, ◌&&◌, Bool, true, false, if◌then◌else◌, List, [], ◌∷◌, ◌++◌, length, slice_get, flat_map, All, count_by, is_some, Option, Some, None, Result, Ok, Err}
 use Rattle.std.specs.Option.{option_map}
 use Rattle.ddt_path.specs.declared.locator.Locator.{Locator}
 use Rattle.ddt_path.specs.declared.record.Outcome.{Outcome}
@@ -49,10 +49,6 @@ abbrev pub service_of : Role → ServerSettings → Locator → Result Asked For
 service_of role settings from (Ok v) = service_for role settings from v
 service_of role settings from (Err fault.UnrecognizedAfi) = UnrecognizedAfi
 service_of role settings from (Err _) = NoRequest
-
--- a request isn't dropped
-abbrev pub IsServed : Service → Type 0
-IsServed s = (s ≡ Client) ⊎ (s ≡ Itr)
 
 -- what an ITR asks, where the first of its ITR-RLOCs is this
 abbrev pub of_itr : Asked → Locator → ItrRequest
@@ -111,14 +107,13 @@ sends_to c settings p bytes =
     ++ onwards c bytes (service_of c.role settings p.from (request_in bytes)) (request_in bytes)
 
 -- One turn. `no_packet`, `failed`: the one call of `receive` gave no packet. `served`: it gave one, and what the server
--- sends for it is tried. `out_of_memory`: it gave a request that is served, and there was no memory for it.
+-- sends for it is tried. `out_of_memory`: it gave one for which there is something to send, and no memory for that.
 pub data IsTurn (c : Outline) (settings : ServerSettings) (at : Locator) : List Call → Type 0 where
   no_packet : IsTurn c settings at (Received at most_bytes (Ok None) [] ∷ [])
   failed : (fault : NetFault) → IsTurn c settings at (Received at most_bytes (Err fault) [] ∷ [])
   served : (p : Packet) (bytes : List ℕ) (tries : List Call) → AreTried at (sends_to c settings p bytes) tries
       → IsTurn c settings at (Received at most_bytes (Ok (Some p)) bytes ∷ tries)
-  out_of_memory : (p : Packet) (bytes : List ℕ) (v : Asked) → request_in bytes ≡ Ok v
-      → IsServed (service_for c.role settings p.from v)
+  out_of_memory : (p : Packet) (bytes : List ℕ) → sends_to c settings p bytes ≢ []
       → IsTurn c settings at (Received at most_bytes (Ok (Some p)) bytes ∷ [])
 
 -- a number of turns, one after the other

@@ -1,12 +1,11 @@
 //! Admission: which Encapsulated Control Messages of ITRs a resolver starts a lookup for, and why it drops others.
 
-ghost use Rattle.std.specs.Prelude.{◌≡◌, ◌<◌, ◌∷◌, [], IsTrue, List, IfOk, IfErr};
+ghost use Rattle.std.specs.Prelude.{◌≡◌, ◌<◌, ◌∷◌, ℕ, [], IsTrue, IfOk, IfErr};
 ghost use Rattle.ddt_path.specs.Path.{xeid_path, is_path};
 ghost use Rattle.ddt_ecm.specs.laws.Statements.{IsRequest};
-ghost use Rattle.ddt_loop.specs.Acts.{Running as ARunning};
-ghost use Rattle.ddt_daemon.specs.declared.itr_requests.WaitingRequest.{WaitingRequest as AWaitingRequest};
 ghost use Rattle.ddt_foreign.specs.Request.{request_in};
 ghost use Rattle.ddt_daemon.specs.Admitted.{IsAllowed, IsDropped};
+ghost use Rattle.ddt_daemon.specs.Resolving.{Resolving as AResolving};
 ghost use Rattle.ddt_daemon.specs.Requests.{classified, is_one as is_one_of, names_one as names_one_of};
 
 use ddt_config::settings::Settings;
@@ -107,8 +106,8 @@ pub(crate) fn allowed_request(
     bytes: &[u8],
 ) -> Result<ItrRequest, Dropped>
     ensures allowed { IfOk result (IsAllowed settings.now from bytes.now) }
-    ensures dropped { IfErr result (λ why. (kept : List AWaitingRequest) (w : ARunning)
-        → IsDropped settings.now kept w from bytes.now why) }
+    ensures dropped { IfErr result (λ why. (now : ℕ) (w : AResolving) → IsDropped settings.now now w from bytes.now
+        why) }
 {
     if !settings.allows(from) {
         return Err(Dropped::Denied);

@@ -5,7 +5,7 @@ ghost use Rattle.ddt_path.specs.Path.{xeid_path};
 ghost use Rattle.ddt_cache.specs.Found.{IsFound};
 ghost use Rattle.ddt_resolver.specs.State.{forgotten, most_pending, moved};
 ghost use Rattle.ddt_resolver.specs.Table.{IsNoneDue};
-ghost use Rattle.std.specs.Prelude.{◌≡◌, ◌⊎◌, ◌<◌, ◌≤◌, ◌++◌, ◌∷◌, ℕ, [], false, true, List, length, None, Some, IfOk, IfErr, IfSome, OnOk, OnErr};
+ghost use Rattle.std.specs.Prelude.{◌≡◌, ◌⊎◌, ◌<◌, ◌≤◌, ◌++◌, ◌∷◌, ℕ, [], false, true, List, length, None, Some, IfOk, IfErr, IfSome, IsOk, OnOk, OnErr};
 ghost use Rattle.std.specs.VecDeque.{deque_capacity};
 ghost use Rattle.ddt_sockets.specs.declared.wire_calls.Call.{Call as ACall};
 ghost use Rattle.ddt_sockets.specs.Calls.{RecordsCalls};
@@ -16,12 +16,15 @@ ghost use Rattle.ddt_loop.specs.Acts.{running, AsksForItr, IsToldItr, Resends};
 ghost use Rattle.ddt_loop.specs.Requesters.{opening_desk};
 ghost use Rattle.ddt_ecm.specs.UdpHeader.{control_port};
 ghost use Rattle.ddt_daemon.specs.declared.itr_requests.WaitingRequest.{WaitingRequest as AWaitingRequest};
-ghost use Rattle.ddt_daemon.specs.Admitted.{HasRoomToWait, IsDropped, IsGranted, IsPlaced, IsRefusedPlace, IsRefusedWait};
+ghost use Rattle.ddt_foreign.specs.Plain.{plain_in};
+ghost use Rattle.ddt_daemon.specs.Admitted.{HasRoomToWait, IsDropped, IsGranted, IsPlaced, IsRefusedPlace, IsRefusedWait, IsRememberedAt};
+ghost use Rattle.ddt_daemon.specs.Recent.{coming, IsNew};
 ghost use Rattle.ddt_daemon.specs.Goes.{AreClosed, IsSharerTold, goes_on};
 ghost use Rattle.ddt_daemon.specs.Counted.{nothing_counted, with_dropped};
 ghost use Rattle.ddt_daemon.specs.Spelled.{IsAskedFor, IsSpelledAs};
 ghost use Rattle.ddt_resolver.specs.declared.pending.Pending.{Pending as APending};
-ghost use Rattle.ddt_daemon.specs.Rounds.{resolving, at_moment, was_there, HasWaited, IsHandled, IsRound, IsTick, IsHastened, AreTicks, IsAsked, IsHeard, HearsReply, HearsSpelled, KeepsAsked, WaitsAs};
+ghost use Rattle.ddt_daemon.specs.Resolving.{resolving, at_moment};
+ghost use Rattle.ddt_daemon.specs.Rounds.{was_there, HasWaited, IsHandled, IsRound, IsTick, IsHastened, AreTicks, IsAsked, IsHeard, HearsReply, HearsSpelled, KeepsAsked, WaitsAs};
 
 use crate::admission::{Admitted, Dropped, Lookup, Place, Ready, Waiter, allowed_request};
 use crate::counts::ResolverCounts;
@@ -77,6 +80,7 @@ impl<M: PrefixMap<Entry>> MapResolver<M> {
         ensures running { IfOk result (λ it. it.running ≡ running resolver (opening_desk [])) }
         ensures waiting { IfOk result (λ it. it.waiting.kept.items ≡ []) }
         ensures counts { IfOk result (λ it. it.counts ≡ nothing_counted) }
+        ensures recent { IfOk result (λ it. it.recent.places.items ≡ []) }
     {
         let running = RunningResolver::new(alloc, resolver)?;
         Ok(MapResolver {
@@ -95,6 +99,7 @@ impl<M: PrefixMap<Entry>> MapResolver<M> {
         ensures running { OnOk result (self.new.running ≡ running resolver (opening_desk [])) }
         ensures waiting { OnOk result (self.new.waiting.kept.items ≡ []) }
         ensures counts { self.new.counts ≡ self.old.counts }
+        ensures recent { self.new.recent.places.items ≡ self.old.recent.places.items }
         ensures unchanged { OnErr result ((self.new.running ≡ self.old.running)
             × (self.new.waiting.kept.items ≡ self.old.waiting.kept.items)) }
     {
@@ -124,6 +129,7 @@ impl<M: PrefixMap<Entry>> MapResolver<M> {
         ensures running { self.new.running ≡ self.old.running }
         ensures waiting { self.new.waiting.kept.items ≡ self.old.waiting.kept.items }
         ensures counts { self.new.counts ≡ self.old.counts }
+        ensures recent { self.new.recent.places.items ≡ self.old.recent.places.items }
     {
         self.gave_up.take()
     }
@@ -133,6 +139,7 @@ impl<M: PrefixMap<Entry>> MapResolver<M> {
         ensures running { self.new.running ≡ self.old.running }
         ensures waiting { self.new.waiting.kept.items ≡ self.old.waiting.kept.items }
         ensures counts { self.new.counts ≡ self.old.counts }
+        ensures recent { self.new.recent.places.items ≡ self.old.recent.places.items }
     {
         self.gave_up.take_missed()
     }
@@ -143,6 +150,7 @@ impl<M: PrefixMap<Entry>> MapResolver<M> {
         ensures running { self.new.running ≡ self.old.running }
         ensures waiting { self.new.waiting.kept.items ≡ self.old.waiting.kept.items }
         ensures counts { self.new.counts ≡ self.old.counts }
+        ensures recent { self.new.recent.places.items ≡ self.old.recent.places.items }
     {
         self.unrecognized.take()
     }
@@ -152,6 +160,7 @@ impl<M: PrefixMap<Entry>> MapResolver<M> {
         ensures running { self.new.running ≡ self.old.running }
         ensures waiting { self.new.waiting.kept.items ≡ self.old.waiting.kept.items }
         ensures counts { self.new.counts ≡ self.old.counts }
+        ensures recent { self.new.recent.places.items ≡ self.old.recent.places.items }
     {
         self.unrecognized.take_missed()
     }
@@ -169,6 +178,7 @@ impl<M: PrefixMap<Entry>> MapResolver<M> {
         ensures there { result ≡ map.contains_key self.old.running.state.known.live prefix }
         ensures waiting { self.new.waiting.kept.items ≡ self.old.waiting.kept.items }
         ensures counts { self.new.counts ≡ self.old.counts }
+        ensures recent { self.new.recent.places.items ≡ self.old.recent.places.items }
     {
         self.running.forget(prefix)
     }
@@ -179,6 +189,7 @@ impl<M: PrefixMap<Entry>> MapResolver<M> {
         ensures time { self.new.running ≡ at_moment now self.old.running }
         ensures waiting { self.new.waiting.kept.items ≡ self.old.waiting.kept.items }
         ensures counts { self.new.counts ≡ self.old.counts }
+        ensures recent { self.new.recent.places.items ≡ self.old.recent.places.items }
     {
         self.running.longest(now, x)
     }
@@ -208,8 +219,10 @@ impl<M: PrefixMap<Entry>> MapResolver<M> {
         requires { length buffer.old ≡ most_bytes }
         ensures round { (calls onward : List ACall) × RecordsCalls (W.calls near.old) calls (W.calls near.new)
             × RecordsCalls (V.calls far.old) onward (V.calls far.new) × (result ≡ was_there calls)
-            × IsRound settings.now me now (resolving self.old.running self.old.waiting.kept.items self.old.counts)
-            calls onward (resolving self.new.running self.new.waiting.kept.items self.new.counts) }
+            × IsRound settings.now me now (resolving self.old.running self.old.waiting.kept.items self.old.counts
+            self.old.recent.places.items)
+            calls onward (resolving self.new.running self.new.waiting.kept.items self.new.counts
+            self.new.recent.places.items) }
         ensures room { length buffer.new ≡ most_bytes }
     {
         match near.receive(me, buffer) {
@@ -238,8 +251,9 @@ impl<M: PrefixMap<Entry>> MapResolver<M> {
         ensures { (calls onward : List ACall) × RecordsCalls (W.calls near.old) calls (W.calls near.new)
             × RecordsCalls (V.calls far.old) onward (V.calls far.new)
             × IsHandled settings.now me now packet bytes.now
-            (resolving self.old.running self.old.waiting.kept.items self.old.counts)
-            calls onward (resolving self.new.running self.new.waiting.kept.items self.new.counts) }
+            (resolving self.old.running self.old.waiting.kept.items self.old.counts self.old.recent.places.items)
+            calls onward (resolving self.new.running self.new.waiting.kept.items self.new.counts
+            self.new.recent.places.items) }
     {
         if !MessageType::Encapsulated.is_of(bytes) {
             self.hear(near, far, me, now, packet, bytes);
@@ -259,6 +273,7 @@ impl<M: PrefixMap<Entry>> MapResolver<M> {
         ensures running { self.new.running ≡ self.old.running }
         ensures waiting { self.new.waiting.kept.items ≡ self.old.waiting.kept.items }
         ensures counts { self.new.counts ≡ self.old.counts }
+        ensures recent { self.new.recent.places.items ≡ self.old.recent.places.items }
     {
         self.running
             .tell(near, me, &ready.request, &Ok(ready.outcome));
@@ -269,6 +284,7 @@ impl<M: PrefixMap<Entry>> MapResolver<M> {
         ensures counts { self.new.counts ≡ with_dropped self.old.counts why }
         ensures running { self.new.running ≡ self.old.running }
         ensures waiting { self.new.waiting.kept.items ≡ self.old.waiting.kept.items }
+        ensures recent { self.new.recent.places.items ≡ self.old.recent.places.items }
     {
         self.counts.drop_one(why);
         if why == Dropped::UnrecognizedAfi {
@@ -290,8 +306,11 @@ impl<M: PrefixMap<Entry>> MapResolver<M> {
         ensures moved { OnOk result (self.new.running ≡ at_moment now self.old.running) }
         ensures room { IfOk result (HasRoomToWait (length self.new.waiting.kept.items)
             (deque_capacity self.new.waiting.kept)) }
-        ensures dropped { IfErr result (IsDropped settings.now self.old.waiting.kept.items
-            (at_moment now self.old.running) from bytes.now) }
+        ensures dropped { IfErr result (IsDropped settings.now now (resolving self.old.running
+            self.old.waiting.kept.items self.old.counts self.old.recent.places.items) from bytes.now) }
+        ensures remembered { IfOk result (λ admitted. IsRememberedAt now self.old.recent.places.items admitted
+            self.new.recent.places.items) }
+        ensures recent { OnErr result (self.new.recent.places.items ≡ self.old.recent.places.items) }
         ensures waited { HasWaited now self.old.running self.new.running }
         ensures same { self.new.waiting.kept.items ≡ self.old.waiting.kept.items }
         ensures counts { self.new.counts ≡ self.old.counts }
@@ -327,6 +346,7 @@ impl<M: PrefixMap<Entry>> MapResolver<M> {
             from x) }
         ensures same { self.new.waiting.kept.items ≡ self.old.waiting.kept.items }
         ensures counts { self.new.counts ≡ self.old.counts }
+        ensures recent { self.new.recent.places.items ≡ self.old.recent.places.items }
     {
         let servers = match self.running.beginning(now, x) {
             Beginning::Answer(outcome) => return Ok(Place::Answered(outcome)),
@@ -347,8 +367,8 @@ impl<M: PrefixMap<Entry>> MapResolver<M> {
         Ok(Place::Waits(Lookup::Own(servers)))
     }
 
-    /// A copy of the bytes of a request that is to wait, and room for it. Refuses a request that comes back from where
-    /// it was forwarded, and one for which there is no memory.
+    /// A copy of the bytes of a request that is to wait, and room for it. The request is remembered. Refuses a request
+    /// that comes back from where it was forwarded, and one for which there is no memory.
     fn waiter(
         &mut self,
         now: Moment,
@@ -358,17 +378,24 @@ impl<M: PrefixMap<Entry>> MapResolver<M> {
     ) -> Result<Listed<u8>, Dropped>
         ensures bytes { IfOk result (λ copy. copy ≡ bytes.now) }
         ensures room { OnOk result (length self.new.waiting.kept.items < deque_capacity self.new.waiting.kept) }
-        ensures refused { IfErr result IsRefusedWait }
+        ensures remembered { OnOk result (IsNew self.old.recent.places.items (coming request from now)
+            self.new.recent.places.items) }
+        ensures refused { IfErr result (IsRefusedWait self.old.recent.places.items (coming request from now)) }
+        ensures recent { OnErr result (self.new.recent.places.items ≡ self.old.recent.places.items) }
         ensures same { self.new.waiting.kept.items ≡ self.old.waiting.kept.items }
         ensures running { self.new.running ≡ self.old.running }
         ensures counts { self.new.counts ≡ self.old.counts }
     {
         let at = now.millis();
-        if self.recent.takes_back(Recent { request, from, at }) {
+        let came = Recent { request, from, at };
+        if self.recent.has_before(&came) {
             return Err(Dropped::Looped);
         }
         match self.room_for(bytes) {
-            Ok(bytes) => Ok(bytes),
+            Ok(bytes) => {
+                self.recent.remember(came);
+                Ok(bytes)
+            }
             Err(_refused) => Err(Dropped::Memory),
         }
     }
@@ -380,6 +407,7 @@ impl<M: PrefixMap<Entry>> MapResolver<M> {
         ensures same { self.new.waiting.kept.items ≡ self.old.waiting.kept.items }
         ensures running { self.new.running ≡ self.old.running }
         ensures counts { self.new.counts ≡ self.old.counts }
+        ensures recent { self.new.recent.places.items ≡ self.old.recent.places.items }
     {
         self.waiting.reserve()?;
         let bytes = Vec::from_slice(self.alloc, bytes)?;
@@ -390,8 +418,9 @@ impl<M: PrefixMap<Entry>> MapResolver<M> {
     fn ask<W: Wires>(&mut self, near: &mut W, me: Locator, now: Moment, waiter: Waiter)
         requires room { length self.old.waiting.kept.items < deque_capacity self.old.waiting.kept }
         ensures { (calls : List ACall) × RecordsCalls (W.calls near.old) calls (W.calls near.new)
-            × IsAsked me now waiter (resolving self.old.running self.old.waiting.kept.items self.old.counts) calls
-            (resolving self.new.running self.new.waiting.kept.items self.new.counts) }
+            × IsAsked me now waiter (resolving self.old.running self.old.waiting.kept.items self.old.counts
+            self.old.recent.places.items) calls
+            (resolving self.new.running self.new.waiting.kept.items self.new.counts self.new.recent.places.items) }
     {
         let lookup = waiter.lookup;
         match lookup {
@@ -416,8 +445,8 @@ impl<M: PrefixMap<Entry>> MapResolver<M> {
         ensures asks { (calls : List ACall) × RecordsCalls (W.calls near.old) calls (W.calls near.new)
             × AsksForItr me now waiter.request self.old.running calls self.new.running }
         ensures keeps { KeepsAsked servers waiter.from waiter.bytes waiter.request
-            (resolving self.old.running self.old.waiting.kept.items self.old.counts)
-            (resolving self.new.running self.new.waiting.kept.items self.new.counts) }
+            (resolving self.old.running self.old.waiting.kept.items self.old.counts self.old.recent.places.items)
+            (resolving self.new.running self.new.waiting.kept.items self.new.counts self.new.recent.places.items) }
     {
         let ticket = self.running.ask(near, me, now, waiter.request);
         if let Some(ticket) = ticket {
@@ -434,6 +463,7 @@ impl<M: PrefixMap<Entry>> MapResolver<M> {
             × (k.ticket ≡ ticket) × WaitsAs begins waiter.from waiter.bytes waiter.request k }
         ensures running { self.new.running ≡ self.old.running }
         ensures counts { self.new.counts ≡ self.old.counts }
+        ensures recent { self.new.recent.places.items ≡ self.old.recent.places.items }
     {
         self.waiting.add(WaitingRequest {
             ticket,
@@ -458,8 +488,9 @@ impl<M: PrefixMap<Entry>> MapResolver<M> {
         ensures { (calls onward : List ACall) × RecordsCalls (W.calls near.old) calls (W.calls near.new)
             × RecordsCalls (V.calls far.old) onward (V.calls far.new)
             × IsHeard me now packet bytes.now
-            (resolving self.old.running self.old.waiting.kept.items self.old.counts)
-            calls onward (resolving self.new.running self.new.waiting.kept.items self.new.counts) }
+            (resolving self.old.running self.old.waiting.kept.items self.old.counts self.old.recent.places.items)
+            calls onward (resolving self.new.running self.new.waiting.kept.items self.new.counts
+            self.new.recent.places.items) }
     {
         if packet.port != CONTROL_PORT {
             return;
@@ -473,14 +504,16 @@ impl<M: PrefixMap<Entry>> MapResolver<M> {
     }
 
     /// The datagram to handle instead of one from an address: what it says of the identifier that its nonce asks for,
-    /// in the core's spelling. None if the datagram is handled as it is. Runs out of memory only for a datagram whose
-    /// nonce asks for an identifier.
+    /// in the core's spelling. None if the datagram is handled as it is. Runs out of memory only for a datagram of which
+    /// something is taken for the identifier.
     fn spelled(&mut self, from: Locator, bytes: &[u8]) -> Result<Option<Listed<u8>>, AllocError>
         ensures spelled { IfOk result (IsSpelledAs self.old.running.state bytes.now) }
-        ensures wanted { OnErr result ((t : ℕ) × (l : APending) × IsAskedFor self.old.running.state bytes.now t l) }
+        ensures wanted { OnErr result ((t : ℕ) × (l : APending) × IsAskedFor self.old.running.state bytes.now t l
+            × IsOk (plain_in l.x bytes.now)) }
         ensures running { self.new.running ≡ self.old.running }
         ensures waiting { self.new.waiting.kept.items ≡ self.old.waiting.kept.items }
         ensures counts { self.new.counts ≡ self.old.counts }
+        ensures recent { self.new.recent.places.items ≡ self.old.recent.places.items }
     {
         if bytes.len() < BEFORE_RECORDS {
             return Ok(None);
@@ -502,6 +535,7 @@ impl<M: PrefixMap<Entry>> MapResolver<M> {
         ensures running { self.new.running ≡ self.old.running }
         ensures waiting { self.new.waiting.kept.items ≡ self.old.waiting.kept.items }
         ensures counts { self.new.counts ≡ self.old.counts }
+        ensures recent { self.new.recent.places.items ≡ self.old.recent.places.items }
     {
         if let Ok(Err(ForeignFault::UnrecognizedAfi)) = read_foreign(self.alloc, bytes, asked) {
             self.unrecognized.keep(UnrecognizedMessage::Referral(from));
@@ -524,8 +558,9 @@ impl<M: PrefixMap<Entry>> MapResolver<M> {
         ensures { (calls onward : List ACall) × RecordsCalls (W.calls near.old) calls (W.calls near.new)
             × RecordsCalls (V.calls far.old) onward (V.calls far.new)
             × HearsSpelled me now packet bytes.now
-            (resolving self.old.running self.old.waiting.kept.items self.old.counts)
-            calls onward (resolving self.new.running self.new.waiting.kept.items self.new.counts) }
+            (resolving self.old.running self.old.waiting.kept.items self.old.counts self.old.recent.places.items)
+            calls onward (resolving self.new.running self.new.waiting.kept.items self.new.counts
+            self.new.recent.places.items) }
     {
         match self.running.resolver().cut_to_zone(packet.from, bytes) {
             Ok(None) => self.hear_reply(near, far, me, now, packet, bytes),
@@ -554,8 +589,9 @@ impl<M: PrefixMap<Entry>> MapResolver<M> {
         ensures { (calls onward : List ACall) × RecordsCalls (W.calls near.old) calls (W.calls near.new)
             × RecordsCalls (V.calls far.old) onward (V.calls far.new)
             × HearsReply me now packet heard.now
-            (resolving self.old.running self.old.waiting.kept.items self.old.counts)
-            calls onward (resolving self.new.running self.new.waiting.kept.items self.new.counts) }
+            (resolving self.old.running self.old.waiting.kept.items self.old.counts self.old.recent.places.items)
+            calls onward (resolving self.new.running self.new.waiting.kept.items self.new.counts
+            self.new.recent.places.items) }
     {
         let DatagramOutcome { ended, ignored } = self.running.hear(near, me, now, packet, heard);
         self.counts.hear_one(ignored);
@@ -574,6 +610,7 @@ impl<M: PrefixMap<Entry>> MapResolver<M> {
             self.new.waiting.kept.items }
         ensures running { self.new.running ≡ self.old.running }
         ensures counts { self.new.counts ≡ self.old.counts }
+        ensures recent { self.new.recent.places.items ≡ self.old.recent.places.items }
     {
         while let Some(kept) = self.waiting.take(closing.ended.ticket) {
             self.note_give_up(closing, &kept);
@@ -587,6 +624,7 @@ impl<M: PrefixMap<Entry>> MapResolver<M> {
         ensures running { self.new.running ≡ self.old.running }
         ensures waiting { self.new.waiting.kept.items ≡ self.old.waiting.kept.items }
         ensures counts { self.new.counts ≡ self.old.counts }
+        ensures recent { self.new.recent.places.items ≡ self.old.recent.places.items }
     {
         if let Some(one) = gave_up(kept, &closing.ended.end) {
             self.gave_up.keep(one);
@@ -600,6 +638,7 @@ impl<M: PrefixMap<Entry>> MapResolver<M> {
         ensures running { self.new.running ≡ self.old.running }
         ensures waiting { self.new.waiting.kept.items ≡ self.old.waiting.kept.items }
         ensures counts { self.new.counts ≡ self.old.counts }
+        ensures recent { self.new.recent.places.items ≡ self.old.recent.places.items }
     {
         if kept.begins.is_none() {
             self.running
@@ -611,8 +650,9 @@ impl<M: PrefixMap<Entry>> MapResolver<M> {
     pub fn tick<W: Wires, V: Wires>(&mut self, near: &mut W, far: &mut V, me: Locator, now: Moment)
         ensures { (calls onward : List ACall) × RecordsCalls (W.calls near.old) calls (W.calls near.new)
             × RecordsCalls (V.calls far.old) onward (V.calls far.new)
-            × IsTick me now (resolving self.old.running self.old.waiting.kept.items self.old.counts) calls onward
-            (resolving self.new.running self.new.waiting.kept.items self.new.counts) }
+            × IsTick me now (resolving self.old.running self.old.waiting.kept.items self.old.counts
+            self.old.recent.places.items) calls onward
+            (resolving self.new.running self.new.waiting.kept.items self.new.counts self.new.recent.places.items) }
     {
         let ended = self.running.tick(near, me, now);
         if let Some(ended) = ended {
@@ -633,8 +673,10 @@ impl<M: PrefixMap<Entry>> MapResolver<M> {
     )
         ensures { (calls onward : List ACall) × RecordsCalls (W.calls near.old) calls (W.calls near.new)
             × RecordsCalls (V.calls far.old) onward (V.calls far.new)
-            × IsHastened me now nonce (resolving self.old.running self.old.waiting.kept.items self.old.counts) calls
-            onward (resolving self.new.running self.new.waiting.kept.items self.new.counts) }
+            × IsHastened me now nonce (resolving self.old.running self.old.waiting.kept.items self.old.counts
+            self.old.recent.places.items) calls
+            onward (resolving self.new.running self.new.waiting.kept.items self.new.counts
+            self.new.recent.places.items) }
     {
         let ended = self.running.hasten(near, me, now, nonce);
         if let Some(ended) = ended {
@@ -662,8 +704,9 @@ impl<M: PrefixMap<Entry>> MapResolver<M> {
     )
         ensures { (count : ℕ) × (calls onward : List ACall) × RecordsCalls (W.calls near.old) calls (W.calls near.new)
             × RecordsCalls (V.calls far.old) onward (V.calls far.new)
-            × AreTicks me now (resolving self.old.running self.old.waiting.kept.items self.old.counts) count calls
-            onward (resolving self.new.running self.new.waiting.kept.items self.new.counts)
+            × AreTicks me now (resolving self.old.running self.old.waiting.kept.items self.old.counts
+            self.old.recent.places.items) count calls
+            onward (resolving self.new.running self.new.waiting.kept.items self.new.counts self.new.recent.places.items)
             × ((count ≡ most_pending) ⊎ IsNoneDue self.new.running.state.pending now) }
     {
         for _tick in 0..MOST_PENDING {

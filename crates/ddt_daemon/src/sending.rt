@@ -1,7 +1,7 @@
 //! The datagrams that a server sends for a request: a Map-Referral to a DDT client, a negative Map-Reply to an ITR, and
 //! the request itself to an ETR (RFC 8111, sections 7.1 and 7.2; RFC 9301, section 8.3).
 
-ghost use Rattle.std.specs.Prelude.{◌≡◌, ◌++◌, List, IfOk};
+ghost use Rattle.std.specs.Prelude.{◌≡◌, ◌≢◌, ◌++◌, [], List, IfOk, OnErr};
 ghost use Rattle.ddt_node.specs.Server.{without_d as without_d_of};
 ghost use Rattle.ddt_sockets.specs.declared.wire_calls.Call.{Call as ACall};
 ghost use Rattle.ddt_sockets.specs.Calls.{RecordsCalls};
@@ -58,7 +58,7 @@ pub(crate) fn to_client<M: PrefixMap<u32>>(
     })
 }
 
-/// The negative Map-Reply to an ITR, or its request for an ETR.
+/// The negative Map-Reply to an ITR, or its request for an ETR. Fails only if out of memory for one of them.
 pub(crate) fn to_itr<M: PrefixMap<u32>>(
     alloc: Global,
     server: &Server<M>,
@@ -68,6 +68,8 @@ pub(crate) fn to_itr<M: PrefixMap<u32>>(
 ) -> Result<Sending, AllocError>
     ensures reply { IfOk result (λ s. sent_if s.reply ≡ reply_for server.now packet request.now Itr) }
     ensures onward { IfOk result (λ s. sent_if s.onward ≡ onward_for server.now bytes.now request.now Itr) }
+    ensures wanted { OnErr result (reply_for server.now packet request.now Itr
+        ++ onward_for server.now bytes.now request.now Itr ≢ []) }
 {
     let x = request.xeid();
     let own = server.locators().as_slice();
@@ -95,7 +97,8 @@ fn negative_reply(
     request: &ForeignRequest<'_>,
     record: &ReferralRecord,
 ) -> Result<Option<Outgoing>, AllocError>
-    ensures { IfOk result (λ reply. sent_if reply ≡ negative_to request.now «record».now) }
+    ensures reply { IfOk result (λ reply. sent_if reply ≡ negative_to request.now «record».now) }
+    ensures wanted { OnErr result (negative_to request.now «record».now ≢ []) }
 {
     if !request.wants_reply() {
         return Ok(None);
@@ -119,7 +122,8 @@ fn as_it_came_to(
     etr: Option<Locator>,
     bytes: &[u8],
 ) -> Result<Option<Outgoing>, AllocError>
-    ensures { IfOk result (λ onward. sent_if onward ≡ on_as_it_came own.now bytes.now etr) }
+    ensures onward { IfOk result (λ onward. sent_if onward ≡ on_as_it_came own.now bytes.now etr) }
+    ensures wanted { OnErr result (on_as_it_came own.now bytes.now etr ≢ []) }
 {
     match etr {
         Some(to) => {

@@ -2,7 +2,7 @@
 
 use crate::texts::{Message, push_locators, string_of};
 use ddt_path::LocatorSet;
-use ddt_registrar::{KeyedSite, RankedEtrs, Registration, push_etrs, push_sender};
+use ddt_registrar::{KeyedSite, Registration, push_etrs, push_sender};
 use ddt_text::write_prefix;
 use std::alloc::{AllocError, Global};
 
@@ -36,10 +36,9 @@ fn push_line(text: &mut Vec<u8>, site: &KeyedSite, etrs: LocatorSet) -> Result<(
 /// numbers of keyed sites and of registered ones. `moment` is in milliseconds.
 pub fn sites_text(alloc: Global, sites: &[KeyedSite], moment: u64) -> Message {
     let mut text = Vec::new(alloc);
-    let mut ranking = RankedEtrs::new(alloc)?;
     let mut registered = 0u64;
     for site in sites {
-        push_line(&mut text, site, site.etrs_in_force(&mut ranking))?;
+        push_line(&mut text, site, site.etrs_in_force())?;
         text.push(b'\n')?;
         push_registrations(&mut text, site.live.as_slice(), moment)?;
         registered = registered.saturating_add(u64::from(is_registered(site)));

@@ -1,6 +1,6 @@
 //! What is taken of a foreign Map-Referral for an identifier, in the one spelling.
 
-ghost use Rattle.std.specs.Prelude.{◌≡◌, ◌≤◌, length, IfOk, IfSome, None};
+ghost use Rattle.std.specs.Prelude.{◌≡◌, ◌≤◌, length, IfOk, IfSome, IsOk, OnErr, None};
 ghost use Rattle.std.specs.Result.{IsErr};
 ghost use Rattle.ddt_path.specs.Path.{xeid_path};
 ghost use Rattle.ddt_path.specs.Steps.{IsReadAs};
@@ -85,7 +85,7 @@ pub struct Plain {
 
 /// What is taken of the foreign Map-Referral that the bytes are, for the identifier, or the first fault. The first
 /// record that covers it is taken, and what follows that record is ignored; the fault is the outer Err only where
-/// it ran out of memory.
+/// it ran out of memory for a record that is taken.
 #[tactic(auto, unfolding(crate::specs::Plain::plain_in))]
 pub fn read_foreign(
     alloc: Global,
@@ -94,6 +94,7 @@ pub fn read_foreign(
 ) -> Result<Result<Plain, ForeignFault>, AllocError>
     ensures exact { IfOk result (λ r. IsReadAs (λ x. x.record) r (plain_in asked bytes.now)) }
     ensures nonce { IfOk result (λ r. IfOk r (λ x. x.nonce ≡ nonce_of bytes.now)) }
+    ensures wanted { OnErr result (IsOk (plain_in asked bytes.now)) }
 {
     let (record, action) = match taken(asked, bytes) {
         Ok(parts) => parts,
@@ -125,7 +126,8 @@ fn taken(asked: Xeid, bytes: &[u8]) -> Result<(ForeignRecord<'_>, Action), Forei
 }
 
 /// The one spelling of what is taken of the foreign Map-Referral that the bytes are, for the identifier: bytes that are
-/// read as the plain record with the same nonce. None exactly where nothing is taken. Fails only if out of memory.
+/// read as the plain record with the same nonce. None exactly where nothing is taken. Fails only if out of memory for
+/// what is taken.
 pub fn plain_referral(
     alloc: Global,
     bytes: &[u8],
@@ -133,6 +135,7 @@ pub fn plain_referral(
 ) -> Result<Option<Listed<u8>>, AllocError>
     ensures gives { IfOk result (λ o. IfSome o (λ given. Gives asked bytes.now given)) }
     ensures none { IfOk result (λ o. o ≡ None → IsErr (plain_in asked bytes.now)) }
+    ensures wanted { OnErr result (IsOk (plain_in asked bytes.now)) }
 {
     match read_foreign(alloc, bytes, asked)? {
         Ok(plain) => {

@@ -25,8 +25,9 @@ use Rattle.ddt_loop.specs.Requesters.{opening_desk}
 use Rattle.ddt_loop.specs.Right.{WasAsked}
 use Rattle.ddt_loop.specs.Runs.{BeginsSound, MayEndBy}
 use Rattle.ddt_daemon.specs.declared.itr_requests.WaitingRequest.{WaitingRequest}
+use Rattle.ddt_daemon.specs.Resolving.{Resolving}
 use Rattle.ddt_daemon.specs.Rounds as rounds
-use Rattle.ddt_daemon.specs.Rounds.{Resolving, HearsSpelled, IsHeard, IsHandled, IsRound, no_packet, failed, came}
+use Rattle.ddt_daemon.specs.Rounds.{HearsSpelled, IsHeard, IsHandled, IsRound, no_packet, failed, came}
 use Rattle.ddt_daemon.specs.Runs.{IsOnward, HasServed, begins, round, tick, hastening, resending, forgetting, waiting, renewal}
 
 -- ---- the premise

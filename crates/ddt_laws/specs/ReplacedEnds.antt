@@ -25,7 +25,7 @@ use Rattle.ddt_resolver.specs.State.{State, moved, reply_timeout_ms}
 use Rattle.ddt_loop.specs.Requesters.{opening_desk}
 use Rattle.ddt_loop.specs.Polls.{polled}
 use Rattle.ddt_loop.specs.Runs.{heard_of}
-use Rattle.ddt_daemon.specs.Rounds.{Resolving}
+use Rattle.ddt_daemon.specs.Resolving.{Resolving}
 use Rattle.ddt_daemon.specs.Runs.{IsOnward, HasServed, begins, round, tick, hastening, resending, forgetting, waiting, renewal}
 use Rattle.ddt_daemon.specs.Spelled.{IsSpelledAs}
 use Rattle.ddt_laws.specs.PositiveEnds.{finished, ended_in_round}

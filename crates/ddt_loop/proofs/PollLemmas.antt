@@ -72,7 +72,7 @@ polling servers me sockets now (suc k) w calls new (at, there, polls, same) = by
     by : PollsServer servers at calls → polls_in calls ≡ 1
     by (none_there call none is) = rw is (nothing at call none)
     by (served p bytes reply tries says sent is) = rw (is, both (_ ∷ []) tries, tried at _ tries sent)
-    by (out_of_memory p bytes is) = rw is
+    by (out_of_memory p bytes wanted is) = rw is
 
 pub polls_turns : {servers me sockets start number moments calls w : _} → HaveTurned servers me sockets start number moments calls w → polls_in calls ≡ number
 polls_turns no_turn = refl

@@ -65,7 +65,7 @@ right_server : {r me ids servers at extra calls w : _} (polling : _) → at ≢ 
 right_server {me = me} {at = at} polling apart i (none_there call none is) = rw is (right_other call (nothing_tried me at call none) i)
 right_server {me = me} {at = at} polling apart i (served p bytes reply tries says tried is) =
     rw is (right_others _ (All-cons (IsNoReply me) _ tries tt (no_replies_there at me _ tries apart tried)) i)
-right_server polling apart i (out_of_memory p bytes is) = rw is (right_other _ tt i)
+right_server polling apart i (out_of_memory p bytes wanted is) = rw is (right_other _ tt i)
 
 pub fair_datagram : {r me ids : _} (calls rest : _) {w : _} (now room p bytes : _) → IsKept r me ids calls w
     → ArePacketsFair r me (calls ++ Received me room (Ok (Some p)) bytes ∷ rest) → p.port ≡ 4342 → IsFairDatagram r (moved now w.state) p.from bytes

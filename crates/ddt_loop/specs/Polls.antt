@@ -47,15 +47,15 @@ pub data PollsMe (me : Locator) (now : ℕ) (w : Running) (calls : List Call) (n
 
 -- ---- at a server's socket
 
--- A poll. `served`: the servers' reply, if there is one, is tried to where the packet came from. `out_of_memory`: the
--- packet is lost.
+-- A poll. `served`: the servers' reply, if there is one, is tried to where the packet came from. `out_of_memory`: there
+-- is one, and no memory for it, so that the packet is lost.
 pub data PollsServer (servers : List Outline) (at : Locator) (calls : List Call) : Type 0 where
   none_there : (call : Call) → IsNoPacket at call → calls ≡ call ∷ [] → PollsServer servers at calls
   served : (p : Packet) (bytes : List ℕ) (reply : Option (List ℕ)) (tries : List Call)
       → reply ≡ reply_at servers at bytes → AreTried at (reply_to p reply) tries
       → calls ≡ polled at (Ok (Some p)) bytes ∷ tries → PollsServer servers at calls
-  out_of_memory : (p : Packet) (bytes : List ℕ) → calls ≡ polled at (Ok (Some p)) bytes ∷ []
-      → PollsServer servers at calls
+  out_of_memory : (p : Packet) (bytes : List ℕ) → reply_at servers at bytes ≢ None
+      → calls ≡ polled at (Ok (Some p)) bytes ∷ [] → PollsServer servers at calls
 
 -- ---- at the socket of a place: 0 is the resolver's own
 

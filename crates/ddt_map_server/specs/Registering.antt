@@ -36,7 +36,7 @@ pub data Registers (now : ℕ) (at : Locator) (p : Packet) (bytes : List ℕ) (o
   malformed : length bytes ≤ most_bytes → (fault : MapRegisterFault) → message_in bytes ≡ Err fault → new ≡ old
       → Registers now at p bytes old new [] (Malformed fault)
   refused : length bytes ≤ most_bytes → (m : Message) → message_in bytes ≡ Ok m → (refusal : Refusal)
-      → IsRefused now m (sender_of m.id p.from) old new refusal → Registers now at p bytes old new [] (Refused refusal)
+      → IsRefused m (sender_of m.id p.from) old refusal → new ≡ old → Registers now at p bytes old new [] (Refused refusal)
   taken : length bytes ≤ most_bytes → (m : Message) → message_in bytes ≡ Ok m → (notify : Option (List ℕ))
       → IsTaken now m (sender_of m.id p.from) old new notify
       → (tries : List Call) → AreTried at (notify_to_sender p notify) tries

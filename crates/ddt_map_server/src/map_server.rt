@@ -1,6 +1,6 @@
 //! A Map-Server whose sites' ETRs register, and how it serves the datagrams of a socket.
 
-ghost use Rattle.std.specs.Prelude.{◌≡◌, ◌≢◌, ◌⊎◌, ◌+◌, ◌≤◌, ◌∷◌, ℕ, List, length, map, Some, Ok, IfOk, IfErr, OnOk, OnErr};
+ghost use Rattle.std.specs.Prelude.{◌≡◌, ◌≢◌, ◌⊎◌, ◌+◌, ◌≤◌, ◌∷◌, ℕ, List, length, map, Some, Ok, IfErr, OnOk, OnErr};
 ghost use Rattle.ddt_config.specs.declared.fault.ConfigFault.TheVariants.{Shape as IsShape, Memory as IsMemory};
 ghost use Rattle.ddt_config.specs.Table.{Outline, outline};
 ghost use Rattle.ddt_node.specs.Spelled.{HasRoom};
@@ -21,10 +21,10 @@ use crate::source_rate_limit::SourceRateLimit;
 use ddt_config::{ConfigFault, ServerConfig};
 use ddt_daemon::{ServerRecord, ServerSocket, serve_packet};
 use ddt_node::Server;
-use ddt_registrar::{RankedEtrs, Registrar};
+use ddt_registrar::Registrar;
 use ddt_sockets::{Packet, Wires};
 use ddt_trie::PrefixMap;
-use std::alloc::{AllocError, Global};
+use std::alloc::Global;
 use std::marker::Model;
 use std::mem;
 
@@ -55,24 +55,19 @@ impl<M: PrefixMap<u32>> Model for MapServer<M> {
 
 impl<M: PrefixMap<u32>> MapServer<M> {
     /// A Map-Server of a server, which answers by its own configuration, and of a registrar. The registrations of the
-    /// registrar are in force from now on. Fails only if out of memory.
-    pub fn new(
-        alloc: Global,
-        mut server: Server<M>,
-        registrar: Registrar<M>,
-    ) -> Result<MapServer<M>, AllocError>
-        ensures { IfOk result (λ s. Follows server s × (s.registering.sites ≡ registrar)) }
+    /// registrar are in force from now on.
+    pub fn new(alloc: Global, mut server: Server<M>, registrar: Registrar<M>) -> MapServer<M>
+        ensures { Follows server result × (result.registering.sites ≡ registrar) }
     {
-        let mut ranking = RankedEtrs::new(alloc)?;
-        registrar.put_in_force(alloc, &mut ranking, &mut server);
-        Ok(MapServer {
+        registrar.put_in_force(alloc, &mut server);
+        MapServer {
             server,
             registrar,
             rates: SourceRateLimit::new(),
             counts: RegisterCounts::default(),
             done: ServerRecord::new(alloc),
             changed_sites: ChangedSites::new(alloc),
-        })
+        }
     }
 
     /// The server, which answers requests.
@@ -114,28 +109,23 @@ impl<M: PrefixMap<u32>> MapServer<M> {
         ensures unchanged { OnErr result (self.new ≡ self.old) }
     {
         let mut server = Server::of_config(alloc, config)?;
-        let Ok(mut ranking) = RankedEtrs::new(alloc) else {
-            return Err(ConfigFault::Memory);
-        };
         registrar.carry_over(mem::replace(&mut self.registrar, Registrar::new(alloc)));
-        registrar.put_in_force(alloc, &mut ranking, &mut server);
+        registrar.put_in_force(alloc, &mut server);
         self.registrar = registrar;
         self.server = server;
         Ok(())
     }
 
-    /// Removes the registrations that are over at a moment, in milliseconds. Fails only if out of memory, and then
-    /// nothing changes: call it again.
-    pub fn end(&mut self, alloc: Global, moment: u64) -> Result<(), AllocError>
-        ensures ended { OnOk result (self.new.registering ≡ record {
+    /// Removes the registrations that are over at a moment, in milliseconds. Allocates nothing.
+    pub fn end(&mut self, alloc: Global, moment: u64)
+        ensures ended { self.new.registering ≡ record {
           sites = map (site_at moment) self.old.registering.sites;
           rates = self.old.registering.rates;
           counts = self.old.registering.counts;
-        }) }
-        ensures unchanged { OnErr result (self.new.registering ≡ self.old.registering) }
+        } }
         ensures follows { (c : Outline) → Follows c self.old → Follows c self.new }
     {
-        self.registrar.end(alloc, &mut self.server, moment)
+        self.registrar.end(alloc, &mut self.server, moment);
     }
 
     /// Serves the datagrams that wait at a socket, at a moment in milliseconds: at most `most`, and none after

@@ -2,6 +2,7 @@
 
 use std::fmt::Debug;
 use std::process::Abort;
+use std::test::Fail;
 
 /// Fails the test unless it got what it wants. Both are printed, and the case.
 pub fn same<T: PartialEq + Debug, C: Debug>(rt: &impl Abort, got: &T, want: &T, case: &C) {
@@ -11,4 +12,29 @@ pub fn same<T: PartialEq + Debug, C: Debug>(rt: &impl Abort, got: &T, want: &T, 
 /// Fails the test unless the condition holds. The case is printed.
 pub fn holds<C: Debug>(rt: &impl Abort, condition: bool, case: &C) {
     assert!(rt; condition, "of {case:?}");
+}
+
+/// What a call gave; None where memory was refused, which must be its only fault.
+pub fn given<T, E: PartialEq + Debug + Drop>(
+    rt: &impl Abort,
+    made: Result<T, E>,
+    memory: &E,
+) -> Option<T> {
+    match made {
+        Ok(found) => Some(found),
+        Err(fault) => {
+            same(rt, &fault, memory, &"the fault");
+            None
+        }
+    }
+}
+
+/// Makes calls, and makes all of them once more where memory was refused to one.
+pub fn twice<F: Fn() -> Option<()>>(calls: F) -> Result<(), Fail>
+    requires { F.IsAlwaysCallable calls }
+{
+    if calls().is_none() {
+        calls().ok_or("memory stays away")?;
+    }
+    Ok(())
 }

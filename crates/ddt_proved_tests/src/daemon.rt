@@ -1,3 +1,5 @@
 //! Of the daemon's crates.
 
+pub mod refused;
 pub mod registrations;
+pub mod texts;

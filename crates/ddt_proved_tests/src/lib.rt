@@ -19,6 +19,8 @@ pub mod lookup;
 #[cfg(test)]
 pub mod register;
 #[cfg(test)]
+pub mod registers;
+#[cfg(test)]
 pub mod resolver;
 #[cfg(test)]
 pub mod review;

@@ -1,4 +1,5 @@
 //! Of `ddt_cache` and `ddt_resolver`.
 
 pub mod calls;
+pub mod entries;
 pub mod refused;

@@ -4,8 +4,10 @@
 use crate::comparison::{holds, same};
 use ddt_cache::{Cache, Entry, Moment};
 use ddt_check::{Accepted, check};
-use ddt_daemon::AnswerCounts;
+use ddt_config::settings::ServerSettings;
+use ddt_daemon::{AnswerCounts, ServerRecord, ServerSocket, serve_ready};
 use ddt_deploy::folders::{FileName, FolderInMemory};
+use ddt_examples::configurations::EAST;
 use ddt_examples::map_registers::IPV4_REGISTER;
 use ddt_examples::messages::{DDT_REQUEST, EAST_ACKNOWLEDGES};
 use ddt_examples::registers::CAMPUS;
@@ -15,13 +17,14 @@ use ddt_laws::registrations::keyed_sites_are_in_range;
 use ddt_map_register::hmac::{hmac_sha1, hmac_sha256};
 use ddt_map_register::read_register as read_map_register;
 use ddt_map_server::keys::read_keys_text;
+use ddt_node::Server;
 use ddt_organisations::{Organisation, in_charge};
 use ddt_path::{Locator, LocatorSet, Name, Prefix, Xeid, shortest_match};
 use ddt_register::read_register;
 use ddt_registrar::KeyedSite;
 use ddt_review::warnings::truncation_of;
 use ddt_sockets::nonces::RandomNonces;
-use ddt_sockets::{PolledWires, WiresInMemory};
+use ddt_sockets::{MOST_BYTES, PolledWires, WiresInMemory};
 use ddt_trie::ListMap;
 use rand_pcg::Pcg32;
 use std::alloc::Global;
@@ -38,7 +41,7 @@ fn a_cache_is_purged(rt: HostRuntime) -> Result<(), Fail> {
     let roots = LocatorSet::of(&[Locator::V4(0x7f00_0001)]).ok_or("no roots")?;
     let mut cache: Cache<ListMap<Entry>> = Cache::new(rt.alloc(), roots);
     let now = Moment::at(60_000).ok_or("no moment")?;
-    cache.purge(now);
+    same(&rt, &cache.purge(now), &0, &"the entries");
     same(&rt, &cache.time().millis(), &60_000, &"the time");
     Ok(())
 }
@@ -65,6 +68,7 @@ fn a_folder_in_memory_fails(rt: HostRuntime) {
 fn dice_give_one_of_some(rt: HostRuntime) {
     let mut dice = Dice::of(1);
     same(&rt, &dice.one_of(&[7, 7]), &7, &"one of sevens");
+    same(&rt, &dice.below(1), &0, &"below one");
 }
 
 #[test]
@@ -97,6 +101,27 @@ fn a_code_is_known(rt: HostRuntime) -> Result<(), Fail> {
     let bytes = bytes_of(rt.alloc(), IPV4_REGISTER)?;
     let register = read_map_register(&bytes)?;
     holds(&rt, register.head().has_known_code(), &"the code");
+    same(&rt, &register.code().len(), &16, &"the code's length");
+    let record = register.records().next().ok_or("no record")?;
+    same(&rt, &record.flags(), &0x1000, &"the flags");
+    Ok(())
+}
+
+#[test]
+fn a_round_without_a_datagram_ends(rt: HostRuntime) -> Result<(), Fail> {
+    let alloc = rt.alloc();
+    let server: Server<ListMap<u32>> = Server::read(alloc, EAST.as_bytes())?;
+    let settings = ServerSettings::none(alloc);
+    let door = ServerSocket {
+        alloc,
+        at: X.address,
+        settings: &settings,
+    };
+    let mut wires = WiresInMemory::new(alloc, 0);
+    let mut done = ServerRecord::new(alloc);
+    let mut buffer = [0; MOST_BYTES];
+    let served = serve_ready(&mut wires, &server, &door, 1, &mut buffer, &mut done);
+    same(&rt, &served, &0, &"the datagrams");
     Ok(())
 }
 

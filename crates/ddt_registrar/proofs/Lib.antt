@@ -1,5 +1,6 @@
 pub mod ListLemmas
 pub mod SiteLemmas
 pub mod JudgeLemmas
-pub mod TakingLemmas
+pub mod PreparedLemmas
+pub mod RankLemmas
 pub mod CarryLemmas

@@ -109,6 +109,14 @@ place_at m sites found v x at = go (get m x.prefix) refl
         let there = item_at (λ (s : Site). s.prefix) x.prefix sites m found.of_sites k answer in
         ap (λ (n : ℕ). Some n) (one_place (λ (s : Site). s.prefix) sites k v there.0 x found.own there.1 at there.2)
 
+-- the item at the place of a prefix is the one that is found
+pub found_there : (p : List ℕ) (sites : List Site) (m : FinMap path_cmp ℕ) → AreFound m sites → (v : ℕ) (x : Site) → get m p ≡ Some v
+    → x ≡ get_or sites v x → find_item (has_it (λ (s : Site). s.prefix) p) sites ≡ Some x
+found_there p sites m found v x answer read =
+    let there = item_at (λ (s : Site). s.prefix) p sites m found.of_sites v answer in
+    let item : there.0 ≡ x = sym (get_or_from_slice_get sites v there.0 x there.1) ∙ sym read in
+    found_at (λ (s : Site). s.prefix) p sites m found.of_sites v answer ∙ there.1 ∙ ap (λ (s : Site). Some s) item
+
 -- ---- a site that changes
 
 module _ (p : List ℕ) (f : Site → Site) (kept : (s : Site) → (f s).prefix ≡ s.prefix) where

@@ -4,5 +4,6 @@ pub mod Lists
 pub mod Registration
 pub mod Checks
 pub mod Taking
+pub mod Prepared
 pub mod Carried
 pub mod laws

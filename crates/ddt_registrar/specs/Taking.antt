@@ -1,5 +1,5 @@
 -- What a Map-Register that is taken changes (RFC 9301, section 5.6), and what the clock does.
-use Rattle.std.specs.Prelude.{ℕ, ◌+◌, ◌==◌, ◌≡◌, ◌||◌, true, not, min, if◌then◌else◌, List, [], ◌∷◌, ◌++◌, map, filter, Option, Some, None, Ok, Err}
+use Rattle.std.specs.Prelude.{ℕ, ◌+◌, ◌==◌, ◌≡◌, ◌||◌, true, not, min, if◌then◌else◌, List, [], ◌∷◌, map, filter, Option, Some, None, Ok, Err}
 use Rattle.std.specs.FinMap.{FinMap}
 use Rattle.ddt_path.specs.declared.locator.Locator.{Locator}
 use Rattle.ddt_map_register.specs.MapRegister.{Message}
@@ -81,30 +81,16 @@ pub record IsNotifyFor (m : Message) (x : Sender) (sites : List Site) (notify : 
   pub taken : checked m x sites ≡ Ok key
   pub is : notify ≡ notify_for m key
 
--- a message isn't taken: it is refused for what it says, or it may be registered under a key but memory ran out
-pub data IsNotNotified (m : Message) (x : Sender) (sites : List Site) (e : Refusal) : Type 0 where
-  NotJudged : checked m x sites ≡ Err e → IsNotNotified m x sites e
-  NoMemory : (key : Key) → checked m x sites ≡ Ok key → e ≡ refusal.Memory → IsNotNotified m x sites e
+-- why a message isn't taken: it is refused for what it says, or it may be registered under a key but memory ran out
+pub data IsRefused (m : Message) (x : Sender) (sites : List Site) (e : Refusal) : Type 0 where
+  Judged : checked m x sites ≡ Err e → IsRefused m x sites e
+  OutOfMemory : (key : Key) → checked m x sites ≡ Ok key → e ≡ refusal.Memory → IsRefused m x sites e
 
 -- a message is taken, with this Map-Notify for it: each of its records has changed its site
 pub record IsTaken (now : ℕ) (m : Message) (x : Sender) (old new : List Site) (notify : Option (List ℕ)) : Type 0
   where
     pub told : IsNotifyFor m x old notify
     pub all : new ≡ after_all now m x m.records old
-
--- only the first records of a message have changed their sites
-pub record IsInPart (now : ℕ) (m : Message) (x : Sender) (old new : List Site) : Type 0 where
-  pub done : List RegisterRecord
-  pub rest : List RegisterRecord
-  pub are : m.records ≡ done ++ rest
-  pub some : new ≡ after_all now m x done old
-
--- A message isn't taken. Either it is refused for what it says, and nothing has changed. Or it may be registered under
--- a key, but memory ran out.
-pub data IsRefused (now : ℕ) (m : Message) (x : Sender) (old new : List Site) (e : Refusal) : Type 0 where
-  Judged : checked m x old ≡ Err e → new ≡ old → IsRefused now m x old new e
-  OutOfMemory : (key : Key) → checked m x old ≡ Ok key → e ≡ refusal.Memory → IsInPart now m x old new
-      → IsRefused now m x old new e
 
 -- a site at a moment: what is over is gone
 abbrev pub site_at : ℕ → Site → Site

@@ -7,7 +7,7 @@ ghost use Rattle.ddt_registrar.specs.Registration.{is_in_force};
 ghost use Rattle.ddt_registrar.specs.Taking.{etrs_in_force as etrs_in_force_of, site_at};
 
 use crate::key::{Key, is_of_key, is_still_under};
-use crate::ranked_etrs::RankedEtrs;
+use crate::ranked_etrs::registered;
 use crate::registration::{LastNonce, Registration};
 use ddt_path::{LocatorSet, Prefix, Prefixed};
 use std::marker::Model;
@@ -76,13 +76,12 @@ fn forget(nonces: &mut Vec<LastNonce>, keys: &[Key])
 
 impl KeyedSite {
     /// The ETRs in force, eight at most. They are the registered ones, by priority. Without a registration they are the
-    /// configured ones until an xTR has registered, and after that only if the site falls back. The content of
-    /// `ranking` is overwritten. Allocates nothing.
-    pub fn etrs_in_force(&self, ranking: &mut RankedEtrs) -> LocatorSet
+    /// configured ones until an xTR has registered, and after that only if the site falls back.
+    pub fn etrs_in_force(&self) -> LocatorSet
         ensures { result ≡ etrs_in_force_of self.now }
     {
         if !self.live.is_empty() {
-            ranking.etrs(self.live.as_slice())
+            registered(self.live.as_slice())
         } else if self.has_registered && !self.falls_back {
             LocatorSet::none()
         } else {

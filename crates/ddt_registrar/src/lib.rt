@@ -3,7 +3,7 @@
 //! keyed sites differ. And the lines of the file that keeps registrations over a restart.
 //!
 //! In reading order: `key`, `sender`, `registration`, `keyed_site`, `refusal`, `register_checks`,
-//! `received_register`, `ranked_etrs`, `registrar`; `clock`, `saved_site`, `saved_sites`.
+//! `site_change`, `received_register`, `ranked_etrs`, `registrar`; `clock`, `saved_site`, `saved_sites`.
 //! Tests: tests/crates/daemon/registrations/registrar.
 #![tactic(auto)]
 
@@ -20,11 +20,11 @@ mod registration;
 mod saved_site;
 mod saved_sites;
 mod sender;
+mod site_change;
 
 pub use clock::Clock;
 pub use key::{Key, Replay};
 pub use keyed_site::KeyedSite;
-pub use ranked_etrs::RankedEtrs;
 pub use received_register::ReceivedRegister;
 pub use refusal::{NotAdded, Refusal};
 pub use registrar::Registrar;

@@ -1,16 +1,19 @@
 //! A received Map-Register, and how its records change a site: registration, withdrawal, lifetime and nonce.
 
-ghost use Rattle.std.specs.Prelude.{◌≡◌, ◌==◌, if◌then◌else◌, not, filter, filter_map, IfOk, OnOk, OnErr};
+ghost use Rattle.std.specs.Prelude.{◌≡◌, not, filter, Some, IfOk};
+ghost use Rattle.std.specs.Option.{option_map};
+ghost use Rattle.ddt_registrar.specs.Prepared.{live_count, nonce_count, HasRoom, IsPrepared, site_changed};
 ghost use Rattle.ddt_registrar.specs.Registration.{etr_of as etr_of_locator, etrs_in, lifetime as lifetime_of};
 ghost use Rattle.ddt_registrar.specs.Sender.{is_same_sender, sender_of};
-ghost use Rattle.ddt_registrar.specs.Taking.{end_of, site_after};
+ghost use Rattle.ddt_registrar.specs.Taking.{end_of};
 
 use crate::key::is_remembered;
 use crate::keyed_site::KeyedSite;
-use crate::lists::put;
+use crate::lists::{list_with_room, put};
 use crate::register_checks::{etr_of, nonce_of};
 use crate::registration::Registration;
 use crate::sender::Sender;
+use crate::site_change::SiteChange;
 use ddt_foreign::Ranked;
 use ddt_map_register::{MapRegister, RegisterRecord};
 use ddt_path::Locator;
@@ -59,6 +62,17 @@ fn lifetime(message: &MapRegister<'_>, record: &RegisterRecord<'_>) -> u64
     }
 }
 
+/// How many registrations and how many last nonces a site has, if there is one.
+fn counts_of(site: Option<&KeyedSite>) -> (usize, usize)
+    ensures live { result.0 ≡ live_count (option_map (λ s. s.now) site.entry) }
+    ensures nonces { result.1 ≡ nonce_count (option_map (λ s. s.now) site.entry) }
+{
+    match site {
+        Some(site) => (site.live.len(), site.nonces.len()),
+        None => (0, 0),
+    }
+}
+
 /// Removes the registration of an xTR.
 fn withdraw(live: &mut Vec<Registration>, sender: Sender)
     ensures { live.new.items ≡ filter (λ g. not (is_same_sender g.sender sender)) live.old.items }
@@ -82,39 +96,58 @@ impl<'m, 'd> ReceivedRegister<'m, 'd> {
         self.moment.saturating_add(lifetime(self.message, record))
     }
 
-    /// Changes a site by a record. A TTL of 0 withdraws the registration of the xTR, any other registers the record's
-    /// ETRs. The nonce is recorded if the nonces of its key have to increase. Fails only if out of memory, and then
-    /// nothing changes.
-    pub fn change(
+    /// Prepares the change by a record of a site, if there is one, that as many records before it may have changed.
+    /// Fails only if out of memory.
+    pub(crate) fn prepare(
         &self,
         alloc: Global,
-        site: &mut KeyedSite,
+        site: Option<&KeyedSite>,
         record: &RegisterRecord<'_>,
-    ) -> Result<(), AllocError>
-        ensures changed { OnOk result (site.new
-            ≡ site_after self.now.moment self.now.message.now (sender_of self.now.message.now.id self.now.from)
-            record.now site.old) }
-        ensures unchanged { OnErr result (site.new ≡ site.old) }
+        before: usize,
+    ) -> Result<SiteChange, AllocError>
+        ensures { IfOk result (λ change. IsPrepared self.now.moment self.now.message.now
+            (sender_of self.now.message.now.id self.now.from) (option_map (λ s. s.now) site.entry) before record.now
+            change) }
     {
         let head = self.message.head();
-        let registration = Registration {
-            sender: self.sender(),
-            key_id: head.key_id,
-            algorithm: head.algorithm,
-            etrs: etrs_of(alloc, record)?,
-            deadline: self.deadline(record),
-        };
-        site.live.reserve(1)?;
-        site.nonces.reserve(1)?;
-        if record.ttl() == 0 {
+        let (live, nonces) = counts_of(site);
+        Ok(SiteChange {
+            prefix: record.prefix(),
+            registration: Registration {
+                sender: self.sender(),
+                key_id: head.key_id,
+                algorithm: head.algorithm,
+                etrs: etrs_of(alloc, record)?,
+                deadline: self.deadline(record),
+            },
+            is_withdrawal: record.ttl() == 0,
+            live: list_with_room(alloc, live, before)?,
+            nonces: list_with_room(alloc, nonces, before)?,
+        })
+    }
+
+    /// Changes a site as prepared: withdraws the registration of the xTR, or registers its ETRs. The nonce is recorded
+    /// if the nonces of its key have to increase. Allocates nothing.
+    pub(crate) fn change(&self, site: &mut KeyedSite, change: SiteChange)
+        requires { HasRoom (Some site.old) 0 change }
+        ensures { site.new ≡ site_changed self.now.message.now
+            (sender_of self.now.message.now.id self.now.from) change site.old }
+    {
+        let SiteChange {
+            registration,
+            is_withdrawal,
+            live,
+            nonces,
+            ..
+        } = change;
+        if is_withdrawal {
             withdraw(&mut site.live, self.sender());
         } else {
-            put(&mut site.live, registration)?;
+            put(&mut site.live, live, registration);
             site.has_registered = true;
         }
-        if is_remembered(site.keys.as_slice(), &head) {
-            put(&mut site.nonces, nonce_of(self.message))?;
+        if is_remembered(site.keys.as_slice(), &self.message.head()) {
+            put(&mut site.nonces, nonces, nonce_of(self.message));
         }
-        Ok(())
     }
 }

@@ -12,14 +12,15 @@ ghost use Rattle.ddt_registrar.specs.Checks.{checked, checked_at, site_of};
 ghost use Rattle.ddt_registrar.specs.Sender.{sender_of};
 ghost use Rattle.ddt_registrar.specs.State.{Site};
 ghost use Rattle.ddt_registrar.specs.declared.refusal.NotAdded.TheVariants.{Twice, Full};
-ghost use Rattle.ddt_registrar.specs.Taking.{sites_after, after_all, IsNotifyFor, IsNotNotified, IsTaken, IsInPart, IsRefused, site_at, in_force};
+ghost use Rattle.ddt_registrar.specs.Prepared.{HasRoom, ArePrepared, sites_changed};
+ghost use Rattle.ddt_registrar.specs.Taking.{after_all, IsNotifyFor, IsTaken, IsRefused, site_at, in_force};
 
 use crate::key::Key;
 use crate::keyed_site::KeyedSite;
-use crate::ranked_etrs::RankedEtrs;
 use crate::received_register::ReceivedRegister;
 use crate::refusal::{NotAdded, Refusal};
 use crate::register_checks::check;
+use crate::site_change::SiteChange;
 use ddt_map_register::RegisterRecord;
 use ddt_node::Server;
 use ddt_path::Prefix;
@@ -126,11 +127,11 @@ impl<M: PrefixMap<u32>> Registrar<M> {
 
     /// Sets the ETRs of each site in a server to those in force, so that the server follows the registrar. Allocates
     /// nothing.
-    pub fn put_in_force(&self, alloc: Global, ranking: &mut RankedEtrs, server: &mut Server<M>)
+    pub fn put_in_force(&self, alloc: Global, server: &mut Server<M>)
         ensures { server.new ≡ in_force self.now server.old }
     {
         for site in self.sites.as_slice() {
-            server.set_etrs(alloc, site.prefix, site.etrs_in_force(ranking));
+            server.set_etrs(alloc, site.prefix, site.etrs_in_force());
         }
     }
 
@@ -172,7 +173,7 @@ impl<M: PrefixMap<u32>> Registrar<M> {
     ) -> Result<Option<Vec<u8>>, Refusal>
         ensures told { IfOk result (λ notify. IsNotifyFor arrival.now.message.now
             (sender_of arrival.now.message.now.id arrival.now.from) self.now (option_map (λ v. v.items) notify)) }
-        ensures refused { IfErr result (λ e. IsNotNotified arrival.now.message.now
+        ensures refused { IfErr result (λ e. IsRefused arrival.now.message.now
             (sender_of arrival.now.message.now.id arrival.now.from) self.now e) }
     {
         let key = self.check(arrival)?;
@@ -186,61 +187,74 @@ impl<M: PrefixMap<u32>> Registrar<M> {
         }
     }
 
-    /// Changes the site of a record, and the ETRs of that site in the server. Fails only if out of memory, and then
-    /// nothing changes.
+    /// Prepares the changes of the sites by all records, in their order. Fails only if out of memory.
+    fn prepare(
+        &self,
+        alloc: Global,
+        arrival: &ReceivedRegister<'_, '_>,
+    ) -> Result<Vec<SiteChange>, AllocError>
+        ensures { IfOk result (λ changes. ArePrepared arrival.now.moment arrival.now.message.now
+            (sender_of arrival.now.message.now.id arrival.now.from) self.now 0 arrival.now.message.now.records
+            changes.items) }
+    {
+        let mut changes = Vec::new(alloc);
+        let mut rest = arrival.message.records();
+        while let Some(record) = rest.next() {
+            let site = self.site(record.prefix());
+            let change = arrival.prepare(alloc, site, &record, changes.len())?;
+            changes.push(change)?;
+        }
+        Ok(changes)
+    }
+
+    /// Changes the site of a record as prepared, and the ETRs of that site in the server. Allocates nothing.
     fn change_one(
         &mut self,
         alloc: Global,
         server: &mut Server<M>,
-        ranking: &mut RankedEtrs,
         arrival: &ReceivedRegister<'_, '_>,
-        record: &RegisterRecord<'_>,
-    ) -> Result<(), AllocError>
-        ensures changed { OnOk result (self.new
-            ≡ sites_after arrival.now.moment arrival.now.message.now
-            (sender_of arrival.now.message.now.id arrival.now.from) record.now self.old) }
-        ensures unchanged { OnErr result (self.new ≡ self.old) }
+        change: SiteChange,
+    )
+        requires { HasRoom (find (λ s. is_same_path s.prefix change.prefix) self.old) 0 change }
+        ensures changed { self.new ≡ sites_changed arrival.now.message.now
+            (sender_of arrival.now.message.now.id arrival.now.from) change self.old }
         ensures follows { (c : Outline) → server.old ≡ in_force self.old c → server.new ≡ in_force self.new c }
     {
-        match self.places.get(record.prefix()) {
+        match self.places.get(change.prefix) {
             Some(place) => {
                 let site = &mut self.sites[*place as usize];
-                arrival.change(alloc, site, record)?;
-                server.set_etrs(alloc, site.prefix, site.etrs_in_force(ranking));
+                arrival.change(site, change);
+                server.set_etrs(alloc, site.prefix, site.etrs_in_force());
             }
             None => {}
         }
-        Ok(())
     }
 
-    /// Changes the sites of all records in their order, and their ETRs in the server. Fails only if out of memory, and
-    /// then only the first records may have changed their sites.
+    /// Changes the sites of all records as prepared, in their order, and their ETRs in the server. Allocates nothing.
     fn change_all(
         &mut self,
         alloc: Global,
         server: &mut Server<M>,
         arrival: &ReceivedRegister<'_, '_>,
-    ) -> Result<(), AllocError>
-        ensures changed { OnOk result (self.new ≡ after_all arrival.now.moment arrival.now.message.now
-            (sender_of arrival.now.message.now.id arrival.now.from) arrival.now.message.now.records self.old) }
-        ensures some { OnErr result (IsInPart arrival.now.moment arrival.now.message.now
-            (sender_of arrival.now.message.now.id arrival.now.from) self.old self.new) }
+        changes: Vec<SiteChange>,
+    )
+        requires { ArePrepared arrival.now.moment arrival.now.message.now
+            (sender_of arrival.now.message.now.id arrival.now.from) self.old 0 arrival.now.message.now.records
+            changes.items }
+        ensures changed { self.new ≡ after_all arrival.now.moment arrival.now.message.now
+            (sender_of arrival.now.message.now.id arrival.now.from) arrival.now.message.now.records self.old }
         ensures follows { (c : Outline) → server.old ≡ in_force self.old c → server.new ≡ in_force self.new c }
     {
-        let mut ranking = RankedEtrs::new(alloc)?;
-        let mut rest = arrival.message.records();
-        while let Some(record) = rest.next() {
-            self.change_one(alloc, server, &mut ranking, arrival, &record)?;
+        for change in changes {
+            self.change_one(alloc, server, arrival, change);
         }
-        Ok(())
     }
 
     /// Accepts a Map-Register: registers each of its records for its xTR, or withdraws it if its TTL is 0. Returns the
-    /// Map-Notify for it, None if the bit M is clear.
+    /// Map-Notify for it, None if the bit M is clear. A server that answered by the configuration in force still does.
     ///
-    /// Refused with the first refusal of its records in their order, and then nothing changes. But if it may be
-    /// registered and memory runs out (7), the first of its records may have changed their sites. In each case a server
-    /// that answered by the configuration in force still does.
+    /// Refused with the first refusal of its records in their order, or if it may be registered and memory runs out
+    /// (7). Then nothing changes.
     pub fn take(
         &mut self,
         alloc: Global,
@@ -250,27 +264,24 @@ impl<M: PrefixMap<u32>> Registrar<M> {
         ensures taken { IfOk result (λ notify. IsTaken arrival.now.moment arrival.now.message.now
             (sender_of arrival.now.message.now.id arrival.now.from) self.old self.new
             (option_map (λ v. v.items) notify)) }
-        ensures refused { IfErr result (λ e. IsRefused arrival.now.moment arrival.now.message.now
-            (sender_of arrival.now.message.now.id arrival.now.from) self.old self.new e) }
+        ensures refused { IfErr result (λ e. IsRefused arrival.now.message.now
+            (sender_of arrival.now.message.now.id arrival.now.from) self.old e) }
+        ensures unchanged { OnErr result ((self.new ≡ self.old) × (server.new ≡ server.old)) }
         ensures follows { (c : Outline) → server.old ≡ in_force self.old c → server.new ≡ in_force self.new c }
     {
         let notify = self.notify(alloc, arrival)?;
-        match self.change_all(alloc, server, arrival) {
-            Ok(()) => Ok(notify),
+        match self.prepare(alloc, arrival) {
+            Ok(changes) => {
+                self.change_all(alloc, server, arrival, changes);
+                Ok(notify)
+            }
             Err(_refused) => Err(Refusal::Memory),
         }
     }
 
     /// Removes the registrations that are over at a moment, in milliseconds, from the site at an index, and sets its
     /// ETRs in the server. Allocates nothing.
-    fn end_at(
-        &mut self,
-        alloc: Global,
-        server: &mut Server<M>,
-        ranking: &mut RankedEtrs,
-        at: usize,
-        now: u64,
-    )
+    fn end_at(&mut self, alloc: Global, server: &mut Server<M>, at: usize, now: u64)
         requires { at < length self.old }
         ensures ended { (x : Site) → slice_get self.old at ≡ Some x → self.new ≡ set self.old at (site_at now x) }
         ensures follows { (c : Outline) → server.old ≡ in_force self.old c → server.new ≡ in_force self.new c }
@@ -278,21 +289,18 @@ impl<M: PrefixMap<u32>> Registrar<M> {
         if self.sites[at].has_ended(now) {
             let site = &mut self.sites[at];
             site.end(now);
-            server.set_etrs(alloc, site.prefix, site.etrs_in_force(ranking));
+            server.set_etrs(alloc, site.prefix, site.etrs_in_force());
         }
     }
 
     /// Removes the registrations that are over at a moment, in milliseconds, and sets the ETRs of their sites in the
-    /// server. Fails only if out of memory, and then nothing changes: call it again.
-    pub fn end(&mut self, alloc: Global, server: &mut Server<M>, now: u64) -> Result<(), AllocError>
-        ensures ended { OnOk result (self.new ≡ map (site_at now) self.old) }
-        ensures unchanged { OnErr result (self.new ≡ self.old) }
+    /// server. Allocates nothing.
+    pub fn end(&mut self, alloc: Global, server: &mut Server<M>, now: u64)
+        ensures ended { self.new ≡ map (site_at now) self.old }
         ensures follows { (c : Outline) → server.old ≡ in_force self.old c → server.new ≡ in_force self.new c }
     {
-        let mut ranking = RankedEtrs::new(alloc)?;
         for at in 0..self.sites.len() {
-            self.end_at(alloc, server, &mut ranking, at, now);
+            self.end_at(alloc, server, at, now);
         }
-        Ok(())
     }
 }

@@ -62,7 +62,8 @@ fn run_command_line(rt: &HostRuntime, log: &mut Log) -> ExitStatus {
     let words = match arguments_of(rt) {
         Ok(words) => words,
         Err(error) if error.kind() == ErrorKind::OutOfMemory => {
-            log.refuse(rt, "out of memory");
+            // A line of the log wants memory itself.
+            let _printed = eprintln!(rt; "<3>out of memory");
             return ExitStatus::Refused;
         }
         Err(_) => {

@@ -90,8 +90,7 @@ impl<'a> Registering<'a> {
         log: &mut Log,
     ) {
         if self.is_on {
-            // If out of memory, they end in the next second.
-            let _ended = server.end(rt.alloc(), moment);
+            server.end(rt.alloc(), moment);
             self.logged.log_changes(rt, server.registrar().sites(), log);
         }
     }

@@ -191,13 +191,9 @@ fn map_server_of(
             return Err(with_path(rt, path, text));
         }
     };
-    let Ok(mut server) = MapServer::new(rt.alloc(), server, registrar) else {
-        return Err(Err(AllocError));
-    };
-    match server.end(rt.alloc(), moment) {
-        Ok(()) => Ok(server),
-        Err(refused) => Err(Err(refused)),
-    }
+    let mut server = MapServer::new(rt.alloc(), server, registrar);
+    server.end(rt.alloc(), moment);
+    Ok(server)
 }
 
 /// The files to watch, if the server is to watch any.

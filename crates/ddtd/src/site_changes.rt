@@ -3,7 +3,7 @@
 use crate::log::{Log, Priority};
 use ddt_daemon_text::site_text;
 use ddt_path::LocatorSet;
-use ddt_registrar::{KeyedSite, RankedEtrs};
+use ddt_registrar::KeyedSite;
 use std::alloc::{AllocError, Global};
 
 /// The most sites whose changes are logged in a second.
@@ -18,10 +18,9 @@ pub struct LoggedSites {
 impl LoggedSites {
     /// The current ETRs of these sites, as if they were logged.
     pub fn of(alloc: Global, sites: &[KeyedSite]) -> Result<LoggedSites, AllocError> {
-        let mut ranking = RankedEtrs::new(alloc)?;
         let mut etrs = Vec::with_capacity(alloc, sites.len())?;
         for site in sites {
-            etrs.push(site.etrs_in_force(&mut ranking))?;
+            etrs.push(site.etrs_in_force())?;
         }
         Ok(LoggedSites { etrs })
     }
@@ -42,12 +41,9 @@ impl LoggedSites {
             }
             return;
         }
-        let Ok(mut ranking) = RankedEtrs::new(rt.alloc()) else {
-            return;
-        };
         let mut changes = 0u32;
         for (logged, site) in self.etrs.iter_mut().zip(sites) {
-            let etrs = site.etrs_in_force(&mut ranking);
+            let etrs = site.etrs_in_force();
             if etrs != *logged {
                 *logged = etrs;
                 changes = changes.saturating_add(1);

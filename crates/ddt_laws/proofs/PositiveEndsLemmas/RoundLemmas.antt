@@ -25,9 +25,11 @@ use Rattle.ddt_loop.specs.Sharing.{IsAskedBy}
 use Rattle.ddt_loop.specs.Polls.{polled}
 use Rattle.ddt_daemon.specs.declared.counts.ResolverCounts.{ResolverCounts}
 use Rattle.ddt_daemon.specs.declared.itr_requests.WaitingRequest.{WaitingRequest}
+use Rattle.ddt_daemon.specs.declared.recent_requests.Recent.{Recent}
 use Rattle.ddt_daemon.specs.Requests.{AsksFor}
+use Rattle.ddt_daemon.specs.Resolving.{Resolving, resolving, at_moment}
 use Rattle.ddt_daemon.specs.Rounds as rounds
-use Rattle.ddt_daemon.specs.Rounds.{Resolving, resolving, at_moment, HasWaited, WaitsAs, KeepsAsked, at_once, waits, HearsReply, IsHeard, IsHandled, IsRound, no_packet, failed, came, IsTick, IsHastened}
+use Rattle.ddt_daemon.specs.Rounds.{HasWaited, WaitsAs, KeepsAsked, at_once, waits, HearsReply, IsHeard, IsHandled, IsRound, no_packet, failed, came, IsTick, IsHastened}
 use Rattle.ddt_daemon.specs.Spelled.{IsSpelledAs}
 use Rattle.ddt_laws.specs.PositiveEnds.{Finished, finished, ended_by_datagram, ended_by_packet, ended_in_round}
 use Rattle.ddt_laws.proofs.PositiveEndsLemmas.ForLemmas.{IsFor, IsOwnOf}
@@ -50,16 +52,16 @@ last_own : {v : Running} (d : List WaitingRequester) (t : ℕ) (q : ItrRequest) 
 last_own {v} d t q h is =
     All-contains (IsOwnOf v.state) (d ++ waiting_for t (Itr q) ∷ []) (waiting_for t (Itr q)) (rw is at h.asked_for) (Contains-push d (waiting_for t (Itr q)))
 
-pub keeps_forgot : {w : Resolving} (p : List ℕ) → Keeps w → Keeps (resolving (running (forgotten w.running.state p) w.running.desk) w.kept w.counts)
+pub keeps_forgot : {w : Resolving} (p : List ℕ) → Keeps w → Keeps (resolving (running (forgotten w.running.state p) w.running.desk) w.kept w.counts w.recent)
 keeps_forgot {w} p h = let a = wait_forgot p h.waits in record { waits = a.waits; kept = all_kept a.carries w.kept h.kept }
 
 module _ {w : Resolving} (h : Keeps w) (now : ℕ) (le : now ≤ last_moment) where
-  pub keeps_moved : {c : _} → Keeps (resolving (at_moment now w.running) w.kept c)
+  pub keeps_moved : {c : ResolverCounts} {r : List (Option Recent)} → Keeps (resolving (at_moment now w.running) w.kept c r)
   keeps_moved = let a = wait_moved h.waits now le in record { waits = a.waits; kept = all_kept a.carries w.kept h.kept }
 
-  keeps_waited : {v : Running} (c : ResolverCounts) → HasWaited now w.running v → Keeps (resolving v w.kept c)
-  keeps_waited c (inl is) = rw is (record { waits = h.waits; kept = h.kept })
-  keeps_waited c (inr is) = rw is (keeps_moved {c = c})
+  keeps_waited : {v : Running} (c : ResolverCounts) (r : List (Option Recent)) → HasWaited now w.running v → Keeps (resolving v w.kept c r)
+  keeps_waited c r (inl is) = rw is (record { waits = h.waits; kept = h.kept })
+  keeps_waited c r (inr is) = rw is (keeps_moved {c = c} {r = r})
 
   -- a request that shares a lookup waits for one of the same identifier
   shares_own : (k : WaitingRequest) (q : ItrRequest) → IsAskedBy w.running.desk.waiting k.ticket q.xeid → IsFor (moved now w.running.state) k.ticket q.xeid
@@ -68,14 +70,14 @@ module _ {w : Resolving} (h : Keeps w) (now : ℕ) (le : now ≤ last_moment) wh
       All-contains (IsOwnOf (moved now w.running.state)) w.running.desk.waiting (waiting_for k.ticket (Itr asked_by.0)) (wait_moved h.waits now le).waits.asked_for asked_by.1 in
       rw asked_by.2 at own
 
-  keeps_asked : (from : Locator) (bytes : List ℕ) (servers : List Locator) (q : ItrRequest) (new : Resolving) → AsksFor bytes q → WaitsOn (at_moment now w.running) new.running
-      → KeepsAsked servers from bytes q (resolving (at_moment now w.running) w.kept w.counts) new → Keeps new
-  keeps_asked from bytes servers q new asks_it a (at_once desk kept counts) = record { waits = a.waits; kept = rw kept (all_kept a.carries w.kept (keeps_moved {c = w.counts}).kept) }
-  keeps_asked from bytes servers q new asks_it a (waits k as_it desk kept counts) =
+  keeps_asked : (from : Locator) (bytes : List ℕ) (servers : List Locator) (q : ItrRequest) (r : List (Option Recent)) (new : Resolving) → AsksFor bytes q → WaitsOn (at_moment now w.running) new.running
+      → KeepsAsked servers from bytes q (resolving (at_moment now w.running) w.kept w.counts r) new → Keeps new
+  keeps_asked from bytes servers q r new asks_it a (at_once desk kept counts recent) = record { waits = a.waits; kept = rw kept (all_kept a.carries w.kept (keeps_moved {c = w.counts} {r = r}).kept) }
+  keeps_asked from bytes servers q r new asks_it a (waits k as_it desk kept counts recent) =
       let own : IsFor new.running.state k.ticket q.xeid = last_own w.running.desk.waiting k.ticket q a.waits (ap (λ (d : Desk). d.waiting) desk) in
       record {
         waits = a.waits;
-        kept = rw kept (All-push (IsKept new.running.state) w.kept k (all_kept a.carries w.kept (keeps_moved {c = w.counts}).kept) (kept_as as_it asks_it own));
+        kept = rw kept (All-push (IsKept new.running.state) w.kept k (all_kept a.carries w.kept (keeps_moved {c = w.counts} {r = r}).kept) (kept_as as_it asks_it own));
       }
 
   module _ (me : Locator) where
@@ -138,7 +140,7 @@ module _ {w : Resolving} (h : Keeps w) (now : ℕ) (le : now ≤ last_moment) (m
   module _ (p : Packet) (bytes : List ℕ) (all : HeardWell holds w.running.state p bytes) where
     heard_on : (near far : List Call) (new : Resolving) → (is : IsHeard me now p bytes w near far new) → Done near far (ended_by_datagram is) new
     heard_on near far new (rounds.other_port port none off is) = quietly off (rw is h) (once (same (rw is refl)))
-    heard_on near far new (rounds.lost_whole t l port its none off is) = quietly off (rw is h) (once (same (rw is refl)))
+    heard_on near far new (rounds.lost_whole t l port its given none off is) = quietly off (rw is h) (once (same (rw is refl)))
     heard_on near far new (rounds.spelled plain port spelled (rounds.lost wide none off is)) = quietly off (rw is h) (once (same (rw is refl)))
     heard_on near far new (rounds.spelled plain port spelled (rounds.whole cuts is)) = replied w.counts p (heard_of bytes plain) near far new (all.whole plain port spelled) is
     heard_on near far new (rounds.spelled plain port spelled (rounds.cut heard cuts is)) = replied _ p heard near far new (all.cut plain heard port spelled cuts) is
@@ -148,15 +150,15 @@ module _ {w : Resolving} (h : Keeps w) (now : ℕ) (le : now ≤ last_moment) (m
     waited (inr is) = once (later (rw is refl))
 
     handled_on : (settings : Settings) (near far : List Call) (new : Resolving) → (is : IsHandled settings me now p bytes w near far new) → Done near far (ended_by_packet is) new
-    handled_on settings near far new (rounds.dropped why v sort is passes none off stays) = rw stays (quietly off (keeps_waited h now le _ passes) (waited passes))
+    handled_on settings near far new (rounds.dropped why v sort is passes none off stays) = rw stays (quietly off (keeps_waited h now le _ _ passes) (waited passes))
     handled_on settings near far new (rounds.answered q o sort admitted its tells off stays) = rw stays (quietly off (keeps_moved h now le) (once (later refl)))
-    handled_on settings near far new (rounds.shared q k sort admitted as_it own none off stays) =
-        let m = keeps_moved h now le {c = w.counts} in
+    handled_on settings near far new (rounds.shared q k recent sort admitted as_it own is_new none off stays) =
+        let m = keeps_moved h now le {c = w.counts} {r = recent} in
         rw stays (quietly off (record { waits = m.waits; kept = All-push (IsKept (moved now w.running.state)) w.kept k m.kept (kept_as as_it (settings.listen, admitted.may.asks) (shares_own h now le k q own.1)) })
         (once (later refl)))
-    handled_on settings near far new (rounds.asked q servers sort admitted placed act off keeps) =
-        let m = keeps_moved h now le {c = w.counts} in
-        quietly off (keeps_asked h now le p.from bytes servers q new (settings.listen, admitted.may.asks) (wait_for_itr m.waits now le act) keeps)
+    handled_on settings near far new (rounds.asked q servers recent sort admitted placed is_new act off keeps) =
+        let m = keeps_moved h now le {c = w.counts} {r = recent} in
+        quietly off (keeps_asked h now le p.from bytes servers q recent new (settings.listen, admitted.may.asks) (wait_for_itr m.waits now le act) keeps)
         (twice (change_for_itr IsAsk (λ x. tt) act))
     handled_on settings near far new (rounds.heard sort is) = heard_on near far new is
 

@@ -28,7 +28,7 @@ use Rattle.ddt_sim.specs.Inside.{HonestRepliesAreInside, StepsKeepStarts, Hasten
 use Rattle.ddt_loop.specs.Requesters.{opening_desk}
 use Rattle.ddt_loop.specs.Acts.{running}
 use Rattle.ddt_loop.specs.Runs.{heard_of, BeginsSound}
-use Rattle.ddt_daemon.specs.Rounds.{Resolving}
+use Rattle.ddt_daemon.specs.Resolving.{Resolving}
 use Rattle.ddt_daemon.specs.Runs.{HasServed, begins, round, tick, hastening, resending, forgetting, waiting, renewal}
 use Rattle.ddt_daemon.specs.Spelled.{IsSpelledAs, short, unasked, untaken, taken}
 use Rattle.ddt_laws.specs.PositiveEnds.{SaysOf, AreRepliesFair, Finished, ended_in_round, ends_of, EndsAsAssigned, GoesToAssigned, BeginsAtRest, EndsAreAssigned, RequestsGoToTheAssigned}
@@ -124,7 +124,7 @@ module _ {r : Register} (g : Grounds r) {me : Locator} where
       let d = round_on a.keeps now le me (IsFair r (moved now v.running.state)) (λ x. tt) (Assigned r) (GoesToAssigned r me)
       (λ p heard new e fair by_. ends_by g a.keeps.waits a.stands now le e fair by_.ends) (λ p heard new e fair by_. go_assigned p.from e (ends_registered g a.keeps.waits a.stands now le e fair by_.ends))
       settings near far new (λ p bytes rest came. heard_well g o a.stands rest _ p bytes (rw came at fair) now) is in
-      joined far (ended_in_round is) a d.keeps (changed now le o (keeps_moved a.keeps now le {c = v.counts}).waits.order a.stands d.changes) d.ends d.onward
+      joined far (ended_in_round is) a d.keeps (changed now le o (keeps_moved a.keeps now le {c = v.counts} {r = v.recent}).waits.order a.stands d.changes) d.ends d.onward
   run_on first (tick {calls = before} {w = v} now near far new so_far le is) fair =
       let a = run_on first so_far (fair_front r me before near fair) in
       let c = change_hears (IsFair r (moved now v.running.state)) tt is.resolves in

@@ -25,7 +25,7 @@ use Rattle.ddt_loop.specs.declared.requester.WaitingRequester.{WaitingRequester}
 use Rattle.ddt_loop.specs.Requesters.{opening_desk, TakesOff}
 use Rattle.ddt_loop.specs.Acts.{Running, running}
 use Rattle.ddt_loop.specs.Ends.{EndsBy, EndsByHaste}
-use Rattle.ddt_daemon.specs.Rounds.{Resolving}
+use Rattle.ddt_daemon.specs.Resolving.{Resolving}
 use Rattle.ddt_daemon.specs.Runs.{HasServed, begins, round, tick, hastening, resending, forgetting, waiting, renewal}
 use Rattle.ddt_laws.specs.ReplacedEnds.{AreRepliesSince, begun_at, WasTrue, EndWasTrue, EndsWereTrue, WentToAssigned, RequestsWereAssigned, IsAtRest, LookupsEndTruly}
 use Rattle.ddt_laws.proofs.ShapeLemmas.{Shape, of_step, of_haste}

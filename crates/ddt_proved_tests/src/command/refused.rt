@@ -4,10 +4,11 @@
 //! `.ci/memory` runs each of these tests with each growth refused in turn.
 
 use crate::command::words::{Reader, process, read_by};
-use crate::comparison::same;
+use crate::comparison::{same, twice};
 use ddt_check::{Accepted, check};
+use ddt_command_line::{Program, command_line};
 use ddt_commands::command_line::{Words, WordsFault};
-use ddt_commands::{answer_group, answer_hex};
+use ddt_commands::{answer_group, answer_hex, register_at};
 use ddt_ecm::read_request;
 use ddt_examples::bytes_of;
 use ddt_examples::messages::{
@@ -15,9 +16,11 @@ use ddt_examples::messages::{
 };
 use ddt_examples::registers::CAMPUS;
 use ddt_lines::{
-    accepted_line, hop_line, negative_reply_line, outcome_line, referral_line, request_line,
+    accepted_line, hop_line, negative_reply_line, outcome_line, push_outcome, referral_line,
+    request_line,
 };
 use ddt_path::{Locator, LocatorSet, Name, Outcome, Xeid};
+use ddt_plan_commands::register_of;
 use ddt_register::read_register;
 use ddt_text::{parse_prefix, parse_xeid};
 use ddt_wire::{read_negative_reply, read_referral};
@@ -429,4 +432,41 @@ fn lines_are_written_whole(rt: HostRuntime) -> Result<(), Fail> {
         has_line(&rt, rt.alloc(), of, fields, wanted)?;
     }
     Ok(())
+}
+
+// ---- registers of sources, and the command line
+
+const PROGRAM: Program<'static> = Program {
+    name: "ddt",
+    version: "1",
+    about: "",
+    after_help: "",
+};
+
+fn opens(rt: &impl Abort, alloc: Global) -> Option<()> {
+    let campus = register_at(alloc, Some(CAMPUS.as_bytes()), "campus.csv").ok()?;
+    same(
+        rt,
+        &campus.register().groups.as_slice().len(),
+        &3,
+        &"the groups",
+    );
+    let campus = register_of(alloc, Some(CAMPUS.as_bytes()), "campus.csv").ok()?;
+    same(
+        rt,
+        &campus.register().groups.as_slice().len(),
+        &3,
+        &"the groups",
+    );
+    let mut line = Vec::new(alloc);
+    let prefix = parse_prefix(b"[0]10.1.2.0/24").ok()?;
+    push_outcome(&mut line, &Outcome::Hole { prefix }).ok()?;
+    are(rt, &line, b"hole [0]10.1.2.0/24");
+    let _line = command_line(alloc, &PROGRAM, &[]).ok()?;
+    Some(())
+}
+
+#[test]
+fn sources_are_read_whole(rt: HostRuntime) -> Result<(), Fail> {
+    twice(|| opens(&rt, rt.alloc()))
 }

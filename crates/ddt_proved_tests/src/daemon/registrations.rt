@@ -1,5 +1,6 @@
-//! Of registrations: `ddt_map_register` and, in `registrar`, `ddt_registrar`.
+//! Of registrations: `ddt_map_register`, in `registrar` `ddt_registrar`, and in `keys` `ddt_map_server`.
 
+pub mod keys;
 pub mod refused;
 pub mod registrar;
 pub mod vectors;

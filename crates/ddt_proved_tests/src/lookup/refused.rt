@@ -110,6 +110,18 @@ fn is_reply(rt: &impl Abort, reply: &Option<Listed<u8>>, wanted: &[u8]) {
     same(rt, &bytes, &wanted, &"the reply");
 }
 
+/// The same, without a count of the lookup.
+fn replied(
+    alloc: Global,
+    servers: &ListServers,
+    request: &[u8],
+) -> Result<Option<Listed<u8>>, AllocError> {
+    match servers.reply(alloc, ROOT, request) {
+        Ok(reply) => Ok(reply),
+        Err(_refused) => servers.reply(alloc, ROOT, request),
+    }
+}
+
 #[test]
 fn a_server_answers_whole(rt: HostRuntime) -> Result<(), Fail> {
     let mut servers = servers(rt.alloc(), CAMPUS)?;
@@ -120,6 +132,7 @@ fn a_server_answers_whole(rt: HostRuntime) -> Result<(), Fail> {
         &answered(rt.alloc(), &mut servers, ROOT, &request)?,
         &wanted,
     );
+    is_reply(&rt, &replied(rt.alloc(), &servers, &request)?, &wanted);
     // Without a server, no memory is needed.
     is_reply(&rt, &servers.answer(rt.alloc(), NOWHERE, &request)?, &[]);
     Ok(())

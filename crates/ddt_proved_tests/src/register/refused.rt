@@ -3,14 +3,16 @@
 //!
 //! `.ci/memory` runs each of these tests with each growth refused in turn.
 
-use crate::comparison::same;
+use crate::comparison::{given, same, twice};
+use crate::registers::accepted as accepted_at_once;
+use csv::ByteRecord;
 use ddt_check::{Accepted, check};
-use ddt_compile::{compile, compile_group};
+use ddt_compile::{compile, compile_group, locators_by_name};
 use ddt_config::{ConfigFault, Key, PlacedFault, ServerConfig, from_toml, read_table, to_toml};
 use ddt_examples::configurations::{EAST, NESTED_EAST, ROOT, TEN, TWO_AUTHORITIES};
 use ddt_examples::registers::{CAMPUS, NESTED_SITES};
 use ddt_path::{Listed, Name};
-use ddt_register::{Group, ReadFault, Register, Site, read_register};
+use ddt_register::{Group, ReadFault, Register, Row, Site, read_register, read_row};
 use std::alloc::{AllocError, Global};
 use std::process::Abort;
 use std::test::Fail;
@@ -255,4 +257,46 @@ fn one_group_is_compiled(rt: HostRuntime) -> Result<(), Fail> {
         compiles_alone(&rt, rt.alloc(), group, wanted)?;
     }
     Ok(())
+}
+
+/// A record of a site is read as row 7.
+fn reads_row(rt: &impl Abort, alloc: Global) -> Option<()> {
+    let site: [&[u8]; 4] = [b"site", b"[0]10.1.2.0/24", b"", b"127.0.2.1"];
+    let fields = ByteRecord::from_fields(alloc, &site).ok()?;
+    assert!(rt; fields.len() == 4);
+    match given(rt, read_row(alloc, 7, &fields), &ReadFault::Memory)? {
+        Row::Site(site) => {
+            same(
+                rt,
+                &(site.row, site.etrs.as_slice().len()),
+                &(7, 1),
+                &"the site",
+            );
+            Some(())
+        }
+        _ => None,
+    }
+}
+
+fn reads_locators(rt: &impl Abort, alloc: Global) -> Option<()> {
+    let register = accepted_at_once(alloc, CAMPUS)?;
+    let sets = locators_by_name(alloc, &register).ok()?;
+    let east = sets.get(&Name::of(b"east")?)?;
+    same(
+        rt,
+        &(sets.len(), east.as_slice().len()),
+        &(3, 2),
+        &"the locators",
+    );
+    Some(())
+}
+
+fn reads(rt: &impl Abort, alloc: Global) -> Option<()> {
+    reads_row(rt, alloc)?;
+    reads_locators(rt, alloc)
+}
+
+#[test]
+fn a_row_and_locators_are_read_whole(rt: HostRuntime) -> Result<(), Fail> {
+    twice(|| reads(&rt, rt.alloc()))
 }

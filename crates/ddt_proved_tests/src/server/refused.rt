@@ -2,17 +2,18 @@
 //!
 //! `.ci/memory` runs each of these tests with each growth refused in turn.
 
-use crate::comparison::{holds, same};
+use crate::comparison::{given, holds, same, twice};
 use crate::server::trie::{DOCUMENTATION, TEN_ONE, finds_longest, front, gets, hole, put};
 use crate::server::wires::{ETR, gave, tried};
-use ddt_config::{Content, ServerConfig, from_toml, to_toml};
-use ddt_examples::configurations::{EAST, SHARED_ROOT, TWO_AUTHORITIES};
+use ddt_config::{ConfigFault, Content, ServerConfig, from_toml, to_toml};
+use ddt_examples::configurations::{EAST, ROOT, SHARED_ROOT, TEN, TWO_AUTHORITIES};
 use ddt_examples::messages::{DDT_REQUEST, EAST_ACKNOWLEDGES};
 use ddt_examples::{bytes_of, changed};
-use ddt_node::{Handled, Server, has_room_for};
+use ddt_node::{Handled, Server, clear_ddt_bit, config_in, has_room_for, places};
 use ddt_path::{Listed, Locator, Prefix, Xeid};
-use ddt_sockets::{Call, Served, WaitingDatagram, WiresInMemory, serve_turns};
-use ddt_trie::{HashedMap, ListMap, PrefixMap, TrieMap};
+use ddt_sockets::nonces::{Outstanding, SentRequest};
+use ddt_sockets::{Call, PolledWires, Served, WaitingDatagram, WiresInMemory, serve_turns};
+use ddt_trie::{HashedMap, ListMap, MOST_ENTRIES, PrefixMap, TrieMap};
 use std::alloc::{AllocError, Global};
 use std::process::Abort;
 use std::test::Fail;
@@ -259,6 +260,130 @@ fn a_request_is_handled_whole(rt: HostRuntime) -> Result<(), Fail> {
     let handled = handled(rt.alloc(), &east, &request)?;
     are_sent(&rt, &handled, &wanted, &changed(request, &[(0, 0x80)]));
     Ok(())
+}
+
+/// The server has the configuration of this name, and answers by it with the prefix of this length.
+fn is_server(rt: &impl Abort, server: &TrieServer, name: &str, len: u8) {
+    same(rt, &server.name().as_bytes(), &name.as_bytes(), &"the name");
+    let answer = server.answer(identifier(Locator::V4(TEN_ONE)));
+    same(rt, &answer.prefix.len(), &len, &"the answer");
+}
+
+/// It takes the configuration of the bytes, or stays as it is.
+fn adopts(rt: &impl Abort, alloc: Global, server: &mut TrieServer) -> Option<()> {
+    let adopted = server.adopt(alloc, ROOT.as_bytes());
+    match adopted {
+        Ok(()) => is_server(rt, server, "root", 41),
+        Err(_refused) => is_server(rt, server, "ten", 49),
+    }
+    given(rt, adopted, &ConfigFault::Memory)
+}
+
+fn adopts_config(rt: &impl Abort, alloc: Global, server: &mut TrieServer) -> Option<()> {
+    let config = given(rt, config_in(alloc, TEN.as_bytes()), &ConfigFault::Memory)?;
+    let adopted = server.adopt_config(alloc, config);
+    match adopted {
+        Ok(()) => is_server(rt, server, "ten", 49),
+        Err(_refused) => is_server(rt, server, "root", 41),
+    }
+    given(rt, adopted, &ConfigFault::Memory)
+}
+
+fn reads(rt: &impl Abort, alloc: Global) -> Option<()> {
+    let mut server = given(
+        rt,
+        TrieServer::read(alloc, TEN.as_bytes()),
+        &ConfigFault::Memory,
+    )?;
+    is_server(rt, &server, "ten", 49);
+    if adopts(rt, alloc, &mut server).is_none() {
+        adopts(rt, alloc, &mut server)?;
+    }
+    adopts_config(rt, alloc, &mut server).or_else(|| adopts_config(rt, alloc, &mut server))
+}
+
+#[test]
+fn a_configuration_is_taken_or_the_server_stays(rt: HostRuntime) -> Result<(), Fail> {
+    twice(|| reads(&rt, rt.alloc()))
+}
+
+/// A request is answered into a buffer.
+fn answers_into(rt: &impl Abort, alloc: Global, east: &TrieServer, request: &[u8]) -> Option<()> {
+    let wanted = bytes_of(alloc, EAST_ACKNOWLEDGES).ok()?;
+    let mut buffer = Vec::new(alloc);
+    let sent = east.handle_into(alloc, request, &mut buffer).ok()?;
+    same(rt, &buffer.as_slice(), &wanted.as_slice(), &"the reply");
+    let to = sent.forward.map(|forward| forward.to);
+    same(
+        rt,
+        &(sent.has_reply, to),
+        &(true, Some(ETR)),
+        &"what is sent",
+    );
+    let reply = east.reply(alloc, request).ok()??;
+    same(rt, &reply.as_slice(), &wanted.as_slice(), &"the reply");
+    Some(())
+}
+
+fn answers(rt: &impl Abort, alloc: Global) -> Option<()> {
+    let east = TrieServer::read(alloc, EAST.as_bytes()).ok()?;
+    let request = bytes_of(alloc, DDT_REQUEST).ok()?;
+    answers_into(rt, alloc, &east, &request)?;
+    let onward = clear_ddt_bit(alloc, &request).ok()?;
+    let wanted = changed(request, &[(0, 0x80)]);
+    same(rt, &onward.as_slice(), &wanted.as_slice(), &"the request");
+    Some(())
+}
+
+#[test]
+fn a_request_is_answered_whole_into_a_buffer(rt: HostRuntime) -> Result<(), Fail> {
+    twice(|| answers(&rt, rt.alloc()))
+}
+
+/// Of two items of one prefix the place of the first counts.
+fn has_places(rt: &impl Abort, alloc: Global, items: &[Prefix]) -> Option<()> {
+    assert!(rt; items.len() < MOST_ENTRIES);
+    let map: TrieMap<u32> = places(alloc, items).ok()?;
+    for (prefix, place) in items.iter().zip([0, 1, 0]) {
+        gets(rt, &map, *prefix, Some(place));
+    }
+    Some(())
+}
+
+/// A request is noted, or none is outstanding.
+fn notes(rt: &impl Abort, queue: &mut Outstanding) -> Option<()> {
+    let noted = queue.note(SentRequest {
+        at: RESOLVER,
+        to: SERVER,
+        wire: 7,
+        plain: 1,
+        sent_at: 0,
+        timer: None,
+    });
+    same(
+        rt,
+        &queue.len(),
+        &usize::from(noted.is_ok()),
+        &"outstanding",
+    );
+    noted.ok()
+}
+
+fn keeps(rt: &impl Abort, alloc: Global) -> Option<()> {
+    let x = identifier(Locator::V4(TEN_ONE));
+    let ten = Prefix::block(0, Locator::V4(0x0a00_0000), 8).ok()?;
+    has_places(rt, alloc, &[ten, Prefix::host(x), ten])?;
+    let mut wires = PolledWires::new(alloc);
+    wires.watch(0).ok()?;
+    let mut queue = Outstanding::new(alloc);
+    notes(rt, &mut queue).or_else(|| notes(rt, &mut queue))?;
+    holds(rt, queue.has(7), &"the nonce on the wire");
+    Some(())
+}
+
+#[test]
+fn places_and_requests_are_kept_whole(rt: HostRuntime) -> Result<(), Fail> {
+    twice(|| keeps(&rt, rt.alloc()))
 }
 
 // ---- turns

@@ -12,7 +12,7 @@ returns-in-Ok-clause-allowed c =
     }
 
 pub returns-in-Err-clause-dropped : goal.returns-in-Err-clause-dropped
-returns-in-Err-clause-dropped c kept w =
-    dropped_for c.args.settings.now c.args.from c.args.bytes.now kept w c.in-Err.why
+returns-in-Err-clause-dropped c now w =
+    dropped_for c.args.settings.now c.args.from c.args.bytes.now now w c.in-Err.why
     (sym c.allows.ensures ∙ c.if-not-allows.false, omega (arith, c.if-bytes-gt-MOST_KEPT_BYTES.false, c.type_inv.bytes))
     (rw c.as_slice.ensures at (sym c.classify_request.ensures ∙ c.in-Err.is))

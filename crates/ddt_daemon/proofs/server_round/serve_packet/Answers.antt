@@ -1,6 +1,5 @@
-use Rattle.std.proofs.Common.{[], refl, sym, ◌∙◌}
+use Rattle.std.proofs.Common.{[], sym, ◌∙◌}
 use Rattle.ddt_sockets.specs.laws.Tell.{tells_none}
-use Rattle.ddt_daemon.specs.ServerTurns.{served}
 use Rattle.ddt_daemon.proofs.TurnLemmas.{unread}
 use Rattle.ddt_daemon.proofs.server_round.serve_packet.Goals as goal
 

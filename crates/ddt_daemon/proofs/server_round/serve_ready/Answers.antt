@@ -1,5 +1,5 @@
-use Rattle.std.proofs.Common.{◌+◌, arith, inl, inr, refl}
-use Rattle.ddt_daemon.proofs.TurnLemmas.{not_turned, turned_on}
+use Rattle.std.proofs.Common.{◌+◌, arith, inr}
+use Rattle.ddt_daemon.proofs.TurnLemmas.{turned_on}
 use Rattle.ddt_daemon.proofs.server_round.serve_ready.Goals as goal
 
 pub returns-then-not-serve_turn-clause-serves : goal.returns-then-not-serve_turn-clause-serves

@@ -1,8 +1,7 @@
-use Rattle.std.proofs.Common.{[], ap, sym, ◌∙◌, inl, inr}
+use Rattle.std.proofs.Common.{[], sym, ◌∙◌}
 use Rattle.ddt_sockets.specs.laws.Tell.{tells_none}
 use Rattle.ddt_daemon.specs.declared.service.Service.TheVariants.{Client, Itr}
-use Rattle.ddt_daemon.specs.ServerTurns.{out_of_memory}
-use Rattle.ddt_daemon.proofs.TurnLemmas.{served_as, nothing_for, tried_as}
+use Rattle.ddt_daemon.proofs.TurnLemmas.{served_as, lost_as, nothing_for, tried_as}
 use Rattle.ddt_daemon.proofs.server_round.serve_request.Goals as goal
 
 pub returns-in_default : goal.returns-in_default
@@ -42,7 +41,8 @@ returns-in-Err g c =
     let role = c.role.ensures in (
       [],
       tells_none _,
-      out_of_memory c.args.packet c.args.bytes.now c.args.request.now c.requires (inl (rw role at (sym c.service_for-service.ensures ∙ c.in-Client.is))),
+      lost_as c.args.server.now c.args.door.now.settings.now c.args.door.now.at c.args.packet c.args.bytes.now c.args.request.now Client c.requires
+          (rw role at (sym c.service_for-service.ensures ∙ c.in-Client.is)) (λ none. cc),
     )
 
 pub returns-in-Err-to_itr : goal.returns-in-Err-to_itr
@@ -50,5 +50,6 @@ returns-in-Err-to_itr g c =
     let role = c.role.ensures in (
       [],
       tells_none _,
-      out_of_memory c.args.packet c.args.bytes.now c.args.request.now c.requires (inr (rw role at (sym c.service_for-service.ensures ∙ c.in-Itr.is))),
+      lost_as c.args.server.now c.args.door.now.settings.now c.args.door.now.at c.args.packet c.args.bytes.now c.args.request.now Itr c.requires
+          (rw role at (sym c.service_for-service.ensures ∙ c.in-Itr.is)) c.in-Err-to_itr.ensures.wanted,
     )

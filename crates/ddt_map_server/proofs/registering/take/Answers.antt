@@ -10,4 +10,4 @@ returns-in-Ok-clause-registers g c =
 
 pub returns-in-Err-clause-registers : goal.returns-in-Err-clause-registers
 returns-in-Err-clause-registers g c =
-    ([], tells_none _, refused c.requires.few c.args.message.now c.requires.read c.in-Err.refusal c.in-Err.ensures.refused)
+    ([], tells_none _, refused c.requires.few c.args.message.now c.requires.read c.in-Err.refusal c.in-Err.ensures.refused c.in-Err.ensures.unchanged.0)

@@ -2,17 +2,18 @@
 //!
 //! `.ci/memory` runs each of these tests with each growth refused in turn.
 
-use crate::comparison::same;
+use crate::comparison::{same, twice};
 use ddt_ecm::write_request;
-use ddt_examples::bytes_of;
 use ddt_examples::messages::{
     DDT_REQUEST, EAST_ACKNOWLEDGES, HOLE_OF_INSTANCES, IPV6_REQUEST, NEGATIVE_REPLY,
     NEGATIVE_REPLY_OF_INSTANCE_7, TEN_IS_NOT_IN_CHARGE,
 };
+use ddt_examples::{bytes_of, with_locator};
 use ddt_path::{Locator, ReferralRecord};
 use ddt_text::{parse_locator, parse_prefix, parse_xeid};
 use ddt_wire::{
-    read_referral, write_address, write_addresses, write_eid, write_negative_reply, write_referral,
+    LentRecord, put_negative_reply, put_referral, read_referral, write_address, write_addresses,
+    write_eid, write_negative_reply, write_referral,
 };
 use std::alloc::{AllocError, Global};
 use std::process::Abort;
@@ -229,4 +230,49 @@ fn addresses_are_appended_whole_or_not_at_all(rt: HostRuntime) -> Result<(), Fai
         &BEFORE,
     );
     Ok(())
+}
+
+/// A Map-Referral is put into a buffer, which is empty where memory is refused.
+fn puts_referral(rt: &impl Abort, alloc: Global, buffer: &mut Vec<u8>) -> Option<()> {
+    let wanted = bytes_of(alloc, EAST_ACKNOWLEDGES).ok()?;
+    let record = read_referral(&wanted).ok()?.to_record();
+    if put_referral(buffer, 1, &LentRecord::of(&record)).is_err() {
+        are(rt, buffer, b"");
+        return None;
+    }
+    are(rt, buffer, &wanted);
+    Some(())
+}
+
+fn puts_reply(rt: &impl Abort, alloc: Global, buffer: &mut Vec<u8>) -> Option<()> {
+    let wanted = bytes_of(alloc, NEGATIVE_REPLY).ok()?;
+    let prefix = parse_prefix(b"[0]10.2.0.0/15").ok()?;
+    put_negative_reply(buffer, 0x1122_3344_5566_7788, 15, prefix).ok()?;
+    are(rt, buffer, &wanted);
+    Some(())
+}
+
+/// A locator is added as the last of a Map-Referral.
+fn adds_locator(rt: &impl Abort, alloc: Global) -> Option<()> {
+    let referral = bytes_of(alloc, EAST_ACKNOWLEDGES).ok()?;
+    let longer = with_locator(referral, [127, 0, 0, 9], 3).ok()?;
+    same(
+        rt,
+        &longer.strip_suffix(b"\x7f\x00\x00\x09").is_some(),
+        &true,
+        &"the last",
+    );
+    Some(())
+}
+
+fn puts(rt: &impl Abort, alloc: Global) -> Option<()> {
+    let mut buffer = begun(alloc).ok()?;
+    puts_referral(rt, alloc, &mut buffer)?;
+    puts_reply(rt, alloc, &mut buffer)?;
+    adds_locator(rt, alloc)
+}
+
+#[test]
+fn messages_are_put_whole_into_a_buffer(rt: HostRuntime) -> Result<(), Fail> {
+    twice(|| puts(&rt, rt.alloc()))
 }

@@ -2,13 +2,14 @@
 //!
 //! `.ci/memory` runs each of these tests with each growth refused in turn.
 
-use crate::comparison::{holds, same};
+use crate::comparison::{holds, same, twice};
+use crate::registers::accepted as accepted_at_once;
 use ddt_check::{Accepted, check};
 use ddt_examples::registers::{CAMPUS, CAMPUS_GROWN, NESTED_SITES};
-use ddt_path::{Locator, Prefix, Xeid};
+use ddt_path::{Locator, Name, Prefix, Xeid};
 use ddt_plan::{
-    Block, Change, GroupChange, ItemChanges, PlanFault, Reading, blocks, changes, group_changes,
-    item_changes,
+    Block, Change, GroupChange, ItemChanges, PlanFault, Reading, SortedPair, Versions, blocks,
+    changes, group_changes, item_changes, serving_groups, versions_by_name,
 };
 use ddt_register::{ReadFault, Register, read_register};
 use std::alloc::{AllocError, Global};
@@ -166,4 +167,31 @@ fn items_are_listed_after_a_refusal(rt: HostRuntime) -> Result<(), Fail> {
     let counts = (all.zones.len(), all.sites.len(), all.groups.len());
     same(&rt, &counts, &(1, 2, 1), &"what differs");
     Ok(())
+}
+
+/// The pair has both registers, and the groups and configurations of both are there.
+fn compares(rt: &impl Abort, alloc: Global, old: &Accepted, new: &Accepted) -> Option<()> {
+    let pair = SortedPair::of(alloc, old, new).ok()?;
+    let (before, after) = (pair.before().counts(), pair.after().counts());
+    let counts = (before.groups, after.groups);
+    same(rt, &counts, &(3, 4), &"the groups");
+    let groups = serving_groups(alloc, old, new).ok()?;
+    let serving = groups.get(&everything()).map(|pair| pair.after);
+    let root = serving??.group;
+    same(rt, &root.as_bytes(), &b"root".as_slice(), &"the root");
+    let versions = versions_by_name(alloc, old, new).ok()?;
+    let far = versions.get(&Name::of(b"far")?);
+    holds(rt, matches!(far, Some(Versions::After(_))), &"far");
+    Some(())
+}
+
+fn pairs(rt: &impl Abort, alloc: Global) -> Option<()> {
+    let old = accepted_at_once(alloc, CAMPUS)?;
+    let new = accepted_at_once(alloc, CAMPUS_GROWN)?;
+    compares(rt, alloc, &old, &new)
+}
+
+#[test]
+fn two_registers_are_compared_whole(rt: HostRuntime) -> Result<(), Fail> {
+    twice(|| pairs(&rt, rt.alloc()))
 }

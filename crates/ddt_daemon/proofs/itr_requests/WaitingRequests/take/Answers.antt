@@ -1,4 +1,4 @@
-use Rattle.std.proofs.Common.{◌≡◌, length, Option, sym, subst, None, Some, List, ◌∙◌}
+use Rattle.std.proofs.Common.{◌≡◌, length, Option, sym, subst, ◌∙◌}
 use Rattle.ddt_daemon.specs.declared.itr_requests.WaitingRequest.{WaitingRequest}
 use Rattle.ddt_daemon.specs.WaitingRequest.{TakesKept}
 use Rattle.ddt_daemon.proofs.KeptLemmas.{nobody_at, taken_at}

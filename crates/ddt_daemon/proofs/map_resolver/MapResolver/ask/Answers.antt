@@ -8,7 +8,7 @@ returns-in-Shared g c =
     let k = c.keep.ensures.kept in (
       [],
       tells_none _,
-      shares c.in-Shared.ticket k.0 c.in-Shared.is k.2 k.3 refl (rw (c.keep.ensures.running, k.1, c.keep.ensures.counts, c.share_one.ensures) refl),
+      shares c.in-Shared.ticket k.0 c.in-Shared.is k.2 k.3 refl (rw (c.keep.ensures.running, k.1, c.keep.ensures.counts, c.share_one.ensures, c.keep.ensures.recent) refl),
     )
 
 pub returns-in-Own : goal.returns-in-Own

@@ -7,8 +7,8 @@ pub returns-in-Some-clause-keeps : goal.returns-in-Some-clause-keeps
 returns-in-Some-clause-keeps g c =
     let k = c.keep.ensures.kept in
     waits k.0 k.3 (rw (c.keep.ensures.running, k.2) (rw c.in-Some.is at c.ask-ticket.ensures.waits)) k.1
-    (rw (c.keep.ensures.counts, c.start_one.ensures) refl)
+    (rw (c.keep.ensures.counts, c.start_one.ensures) refl) c.keep.ensures.recent
 
 pub returns-in_default-clause-keeps : goal.returns-in_default-clause-keeps
 returns-in_default-clause-keeps g c =
-    at_once (rw (is_none c.ask-ticket.result c.in_default.not-Some) at c.ask-ticket.ensures.none) refl refl
+    at_once (rw (is_none c.ask-ticket.result c.in_default.not-Some) at c.ask-ticket.ensures.none) refl refl refl

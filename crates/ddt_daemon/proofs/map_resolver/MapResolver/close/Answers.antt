@@ -5,7 +5,7 @@ use Rattle.ddt_daemon.proofs.CloseLemmas.{closed_one, none_left}
 use Rattle.ddt_daemon.proofs.map_resolver.MapResolver.close.Goals as goal
 
 pub loop-kept-init : goal.loop-kept-init
-loop-kept-init g c = record { calls = ([], [], tells_none _, tells_none _, starts); running = refl; counts = refl }
+loop-kept-init g c = record { calls = ([], [], tells_none _, tells_none _, starts); running = refl; counts = refl; recent = refl }
 
 pub loop-kept-preserved : goal.loop-kept-preserved
 loop-kept-preserved g c =
@@ -22,6 +22,7 @@ loop-kept-preserved g c =
       );
       running = c.tell_sharer.ensures.running ∙ c.note_give_up.ensures.running ∙ c.loop-kept.invariant.running;
       counts = c.tell_sharer.ensures.counts ∙ c.note_give_up.ensures.counts ∙ c.loop-kept.invariant.counts;
+      recent = c.tell_sharer.ensures.recent ∙ c.note_give_up.ensures.recent ∙ c.loop-kept.invariant.recent;
     }
 
 pub returns-clause-closed : goal.returns-clause-closed

@@ -13,6 +13,7 @@ invariant-loop-kept g l =
           × Closes l.closing.me l.closing.by l.closing.ended l.fn.self.waiting.kept.items near far l.self.waiting.kept.items;
       running : l.self.running ≡ l.fn.self.running;
       counts : l.self.counts ≡ l.fn.self.counts;
+      recent : l.self.recent.places.items ≡ l.fn.self.recent.places.items;
     }
 
 abbrev pub decreases-loop-kept : goal.decreases-loop-kept

@@ -21,6 +21,7 @@ returns-in-Some g c =
         follows = k.4;
         calls_are = refl;
         counts = rw (c.close.ensures.counts, c.end_one.ensures) refl;
+        recent = c.close.ensures.recent;
       },
     )
 
@@ -41,5 +42,6 @@ returns-in_default g c =
         follows = (refl, refl, refl);
         calls_are = sym (append-nil w.0);
         counts = refl;
+        recent = refl;
       },
     )

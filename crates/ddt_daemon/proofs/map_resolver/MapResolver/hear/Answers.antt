@@ -14,7 +14,7 @@ returns-in-Ok-None g c =
       w.2,
       w.3,
       spelled None c.if-packet-ne-CONTROL_PORT.false (rw c.in-Ok-None.field-0-is at c.in-Ok-None.ensures.spelled)
-          (rw (c.spelled.ensures.running, c.spelled.ensures.waiting, c.spelled.ensures.counts) at w.4),
+          (rw (c.spelled.ensures.running, c.spelled.ensures.waiting, c.spelled.ensures.counts, c.spelled.ensures.recent) at w.4),
     )
 
 pub returns-in-Ok-Some : goal.returns-in-Ok-Some
@@ -25,7 +25,7 @@ returns-in-Ok-Some g c =
       w.2,
       w.3,
       spelled (Some c.in-Ok-Some.plain) c.if-packet-ne-CONTROL_PORT.false (rw c.in-Ok-Some.field-0-is at c.in-Ok-Some.ensures.spelled)
-          (rw (c.spelled.ensures.running, c.spelled.ensures.waiting, c.spelled.ensures.counts, c.as_slice.ensures) at w.4),
+          (rw (c.spelled.ensures.running, c.spelled.ensures.waiting, c.spelled.ensures.counts, c.spelled.ensures.recent, c.as_slice.ensures) at w.4),
     )
 
 pub returns-in-Err : goal.returns-in-Err
@@ -35,6 +35,6 @@ returns-in-Err g c =
       [],
       tells_none _,
       tells_none _,
-      lost_whole its.0 its.1 c.if-packet-ne-CONTROL_PORT.false its.2 refl refl
-          (rw (c.spelled.ensures.running, c.spelled.ensures.waiting, c.spelled.ensures.counts) refl),
+      lost_whole its.0 its.1 c.if-packet-ne-CONTROL_PORT.false its.2 its.3 refl refl
+          (rw (c.spelled.ensures.running, c.spelled.ensures.waiting, c.spelled.ensures.counts, c.spelled.ensures.recent) refl),
     )

@@ -24,6 +24,7 @@ returns-in-Some g c =
         is_ignored = c.hear-ended.ensures.ignored;
         is_used = c.hear-ended.ensures.used;
         counts = rw (c.close.ensures.counts, c.end_one.ensures, c.hear_one.ensures) refl;
+        recent = c.close.ensures.recent;
       },
     )
 
@@ -47,5 +48,6 @@ returns-in_default g c =
         is_ignored = c.hear-ended.ensures.ignored;
         is_used = c.hear-ended.ensures.used;
         counts = c.hear_one.ensures;
+        recent = refl;
       },
     )

@@ -1,4 +1,4 @@
-use Rattle.std.proofs.Common.{[], ◌++◌, inr, sym, ◌∙◌}
+use Rattle.std.proofs.Common.{[], ◌++◌, inr}
 use Rattle.ddt_sockets.specs.laws.Tell.{tells_both, tells_none}
 use Rattle.ddt_daemon.specs.Rounds.{no_tick, one_tick}
 use Rattle.ddt_daemon.proofs.map_resolver.MapResolver.tick_due.Goals as goal

@@ -6,9 +6,7 @@ use ddt_config::{SiteEntry, from_toml};
 use ddt_map_register::{SHA1_96, SHA256_128};
 use ddt_node::Server;
 use ddt_path::{Action, Listed, Locator, LocatorSet, Prefix, Prefixed};
-use ddt_registrar::{
-    Key, KeyedSite, NotAdded, RankedEtrs, ReceivedRegister, Refusal, Registrar, Replay,
-};
+use ddt_registrar::{Key, KeyedSite, NotAdded, ReceivedRegister, Refusal, Registrar, Replay};
 use ddt_text::parse_prefix;
 use ddt_trie::HashedMap;
 use std::alloc::{AllocError, Global};
@@ -149,6 +147,11 @@ pub fn prefix(rt: &impl Abort, text: &str) -> Prefix {
     parse_prefix(text.as_bytes()).expect(rt, "no prefix")
 }
 
+/// The site EAST, for which nothing is registered yet.
+pub fn east(alloc: Global) -> Option<KeyedSite> {
+    site(alloc, &SITES[0], false, AS_BEFORE)
+}
+
 /// A site for which nothing is registered yet; that of EAST has these keys.
 fn site(alloc: Global, row: &SiteRow, falls_back: bool, of_east: Keys) -> Option<KeyedSite> {
     let (text, configured, rows) = *row;
@@ -207,10 +210,7 @@ impl MapServer {
         let mut fresh = MapServer::under(alloc, false, of_east).expect(rt, "no Map-Server");
         fresh.moment = self.moment;
         fresh.registrar.carry_over(self.registrar);
-        let mut ranking = RankedEtrs::new(alloc).expect(rt, "out of memory");
-        fresh
-            .registrar
-            .put_in_force(alloc, &mut ranking, &mut fresh.server);
+        fresh.registrar.put_in_force(alloc, &mut fresh.server);
         fresh
     }
 
@@ -244,10 +244,9 @@ impl MapServer {
     }
 
     /// So many milliseconds pass, and what is over ends.
-    pub fn wait(&mut self, alloc: Global, rt: &impl Abort, millis: u64) {
+    pub fn wait(&mut self, alloc: Global, millis: u64) {
         self.moment = self.moment.saturating_add(millis);
-        let ended = self.registrar.end(alloc, &mut self.server, self.moment);
-        ended.expect(rt, "out of memory");
+        self.registrar.end(alloc, &mut self.server, self.moment);
     }
 
     /// The ETRs by which the server answers for the site of a prefix.

@@ -4,4 +4,4 @@ use Rattle.ddt_registrar.proofs.ranked_etrs.RankedEtrs.addresses.Given as goal
 
 abbrev pub invariant-loop-at : goal.invariant-loop-at
 invariant-loop-at l =
-    (take l.at l.addresses ≡ map (λ (r : Ranked). r.address) (take l.at l.self-inside.ranked.items)) × (length l.addresses ≡ 8)
+    (take l.at l.addresses ≡ map (λ (r : Ranked). r.address) (take l.at l.self-inside.slots)) × (length l.addresses ≡ 8)

@@ -5,7 +5,7 @@ use Rattle.ddt_map_register.specs.MapRegister.{Message}
 use Rattle.ddt_map_register.specs.MapNotify.{notify_to}
 use Rattle.ddt_registrar.specs.Sender.{sender_of}
 use Rattle.ddt_registrar.specs.State.{Key}
-use Rattle.ddt_registrar.specs.Taking.{NoMemory}
+use Rattle.ddt_registrar.specs.Taking.{OutOfMemory}
 use Rattle.ddt_registrar.proofs.JudgeLemmas.{judged_bears}
 use Rattle.ddt_registrar.proofs.registrar.Registrar.notify.Goals as goal
 
@@ -15,7 +15,7 @@ notify-requires g c =
     (and_parts _ _ (judged_bears c.args.arrival.now.message.now who c.args.self.now c.in_ok-key.key.now c.in_ok-key.ensures)).0
 
 pub returns-in-Err-clause-refused : goal.returns-in-Err-clause-refused
-returns-in-Err-clause-refused g c = NoMemory c.in_ok-key.key.now c.in_ok-key.ensures refl
+returns-in-Err-clause-refused g c = OutOfMemory c.in_ok-key.key.now c.in_ok-key.ensures refl
 
 pub returns-in-Ok-clause-told : goal.returns-in-Ok-clause-told
 returns-in-Ok-clause-told g c =

@@ -1,0 +1,3 @@
+//! Of `ddt_asking`.
+
+pub mod refused;

@@ -1,0 +1,3 @@
+//! Of `ddt_deploy::rollout`, `loopback` and `export`.
+
+pub mod refused;

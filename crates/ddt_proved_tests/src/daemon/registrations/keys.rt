@@ -1,0 +1,3 @@
+//! Of `ddt_map_server`.
+
+pub mod refused;

@@ -1,0 +1,3 @@
+//! Of `ddt_daemon_text`.
+
+pub mod refused;

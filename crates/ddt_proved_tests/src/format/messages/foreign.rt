@@ -1,0 +1,3 @@
+//! Messages of other implementations.
+
+pub mod refused;

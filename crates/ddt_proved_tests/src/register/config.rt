@@ -1,0 +1,3 @@
+//! Of `ddt_config`.
+
+pub mod refused;

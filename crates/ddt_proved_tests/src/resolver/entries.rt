@@ -1,0 +1,3 @@
+//! The entries of a cache, and the zones of lookups.
+
+pub mod refused;

@@ -1,0 +1,3 @@
+//! Of `ddt_review::files`.
+
+pub mod refused;

@@ -1,0 +1,3 @@
+//! Of `ddt_report::pictures`.
+
+pub mod refused;

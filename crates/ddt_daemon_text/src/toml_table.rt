@@ -20,6 +20,7 @@ pub fn table_of(alloc: Global, text: &str) -> Result<Table, Message> {
             Err(format!(in alloc; "2 Field: it is empty: there is no key"))
         }
         Ok(table) => Ok(table),
+        Err(error) if error.is_memory() => Err(Err(AllocError)),
         Err(error) => Err(toml_text(alloc, text, &error)),
     }
 }

@@ -185,16 +185,32 @@ pub(crate) fn site_in(alloc: Global, line: &str) -> Option<SavedSite> {
 
 impl SavedSite {
     /// Adds the registration or nonce of a line. None if the line has neither form, or the site has too many already.
-    pub(crate) fn add(&mut self, alloc: Global, line: &str, clock: Clock) -> Option<()> {
-        if let Some(rest) = line.strip_prefix("xtr ") {
-            let registration = registration_in(alloc, rest, clock)?;
-            let is_full = self.live.len() >= MOST_XTRS;
-            return if is_full {
-                None
-            } else {
-                self.live.push(registration).ok()
-            };
+    /// Fails only if out of memory.
+    pub(crate) fn add(
+        &mut self,
+        alloc: Global,
+        line: &str,
+        clock: Clock,
+    ) -> Result<Option<()>, AllocError> {
+        if let Some(words) = line.strip_prefix("xtr ") {
+            let etrs = Vec::with_capacity(alloc, MOST_LOCATORS)?;
+            self.live.reserve(1)?;
+            return Ok(self.add_registration(etrs, words, clock));
         }
+        self.nonces.reserve(1)?;
+        Ok(self.add_nonce(line))
+    }
+
+    /// Adds the registration of these words, its ETRs in an empty list with room for eight.
+    fn add_registration(&mut self, etrs: Vec<Ranked>, words: &str, clock: Clock) -> Option<()> {
+        let registration = registration_in(etrs, words, clock)?;
+        if self.live.len() >= MOST_XTRS {
+            return None;
+        }
+        self.live.push(registration).ok()
+    }
+
+    fn add_nonce(&mut self, line: &str) -> Option<()> {
         let nonce = nonce_in(line.strip_prefix("nonce ")?)?;
         if self.nonces.len() >= MOST_NONCES {
             return None;
@@ -203,14 +219,14 @@ impl SavedSite {
     }
 }
 
-fn registration_in(alloc: Global, words: &str, clock: Clock) -> Option<SavedRegistration> {
+/// A registration, its ETRs in an empty list with room for eight.
+fn registration_in(mut etrs: Vec<Ranked>, words: &str, clock: Clock) -> Option<SavedRegistration> {
     let mut words = words.split(' ');
     let sender = sender_in(words.next()?)?;
     let key_id = words.next()?.parse::<u8>().ok()?;
     let algorithm = words.next()?.parse::<u8>().ok()?;
     let digest = u128::from_str_radix(words.next()?, 16).ok()?;
     let until = words.next()?.parse::<u64>().ok()?;
-    let mut etrs = Vec::new(alloc);
     for word in words {
         if etrs.len() >= MOST_LOCATORS {
             return None;

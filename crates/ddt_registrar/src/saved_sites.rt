@@ -106,7 +106,7 @@ impl SavedSites {
             self.sites.push(site)?;
             return Ok(None);
         }
-        match site.add(alloc, line, clock) {
+        match site.add(alloc, line, clock)? {
             Some(()) => Ok(Some(site)),
             // The whole site is lost.
             None => {

@@ -39,6 +39,7 @@ pub fn faults_beside(
     let end = truncated_end(alloc, Some(old), bytes)?;
     let mut faults = match read_register(alloc, bytes) {
         Ok(register) => by_missing_zone(alloc, faults, old.path, before, &register)?,
+        Err(ReadFault::Memory) => return Err(AllocError),
         Err(_fault) => faults,
     };
     if let Some(end) = end {

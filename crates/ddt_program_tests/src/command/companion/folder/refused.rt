@@ -89,15 +89,16 @@ fn done<T>(rt: &impl Abort, made: Result<T, PublishFault<MemoryFault>>) -> Optio
     }
 }
 
-/// A file is put there or not, and then read.
-fn sets(rt: &impl Abort, alloc: Global, folder: &mut FolderInMemory) -> Option<()> {
+/// A folder with a file, which is put there or not, and then read.
+fn with_old(rt: &impl Abort, alloc: Global) -> Option<FolderInMemory> {
+    let mut folder = FolderInMemory::new(alloc);
     let set = folder.set(FileName::Register, b"old");
     let found = folder.bytes(FileName::Register).is_some();
     same(rt, &found, &set.is_ok(), &"the file");
     set.ok()?;
-    let bytes = done(rt, read_file(alloc, folder, &FileName::Register))??;
+    let bytes = done(rt, read_file(alloc, &mut folder, &FileName::Register))??;
     same(rt, &bytes.as_slice(), &b"old".as_slice(), &"the bytes");
-    Some(())
+    Some(folder)
 }
 
 /// The register changes, and four files are new.
@@ -105,8 +106,7 @@ const LINES: &str =
     "changed register.csv\nnew east.toml\nnew root.toml\nnew ten.toml\nnew MANIFEST\nsame 0\n";
 
 fn plans(rt: &impl Abort, alloc: Global) -> Option<()> {
-    let mut folder = FolderInMemory::new(alloc);
-    sets(rt, alloc, &mut folder).or_else(|| sets(rt, alloc, &mut folder))?;
+    let mut folder = with_old(rt, alloc).or_else(|| with_old(rt, alloc))?;
     let register = accepted(alloc, CAMPUS)?;
     let nobody = BTreeSet::new(alloc);
     let plan = plan_for(
